@@ -1,0 +1,1 @@
+// The readers of requests and answers.
