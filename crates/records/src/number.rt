@@ -1,22 +1,19 @@
 // Numbers in the bytes of a record, high byte first.
 ghost use mathlib.Core.Path.{_≡_};
-ghost use mathlib.Core.List.{_++_};
 ghost use Prim.Native.Nat.{_+_, _≤_};
-ghost use lib.ListN.{length, drop};
-ghost use Rattle.records.specs.Layout.{number, bytes};
+ghost use lib.ListN.{length};
+ghost use Rattle.records.specs.Layout.{number};
 
 pub(crate) fn two(body: &[u8], i: usize) -> u16
     requires { ⌜ i + 2 ≤ length (now body) ⌝ }
-    ensures value { λ r. ⌜ r ≡ number 2 (now (body .entry)) i ⌝ }
-    ensures back { λ r. ⌜ bytes 2 r ++ drop (i + 2) (now (body .entry)) ≡ drop i (now (body .entry)) ⌝ }
+    ensures { λ r. ⌜ r ≡ number 2 (now (body .entry)) i ⌝ }
 {
     u16::from_be_bytes([body[i], body[i + 1]])
 }
 
 pub(crate) fn four(body: &[u8], i: usize) -> u32
     requires { ⌜ i + 4 ≤ length (now body) ⌝ }
-    ensures value { λ r. ⌜ r ≡ number 4 (now (body .entry)) i ⌝ }
-    ensures back { λ r. ⌜ bytes 4 r ++ drop (i + 4) (now (body .entry)) ≡ drop i (now (body .entry)) ⌝ }
+    ensures { λ r. ⌜ r ≡ number 4 (now (body .entry)) i ⌝ }
 {
     u32::from_be_bytes([body[i], body[i + 1], body[i + 2], body[i + 3]])
 }
