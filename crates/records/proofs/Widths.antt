@@ -9,9 +9,9 @@ use lib.ListN.{length, getD, drop}
 use mir.Syntax.{w8}
 use mir.Val.{Fits}
 use Rattle.std.proofs.shelf.Lists.{drop-more}
-use Rattle.records.specs.Layout.{number, bytes}
+use Rattle.records.specs.Layout.{bigEndian, bytes}
 
-pub number-below : (n : ℕ) (xs : List ℕ) (i : ℕ) → ((k : ℕ) → Fits w8 (getD xs k 0)) → number n xs i < 256 ^ n
+pub number-below : (n : ℕ) (xs : List ℕ) (i : ℕ) → ((k : ℕ) → Fits w8 (getD xs k 0)) → bigEndian n xs i < 256 ^ n
 number-below zero xs i b = omega arith
 number-below (suc n) xs i b = rw pow-succ' (digits-lt (b i .fits) (number-below n xs (i + 1) b))
 
@@ -26,10 +26,10 @@ bytes-past (suc n) d m =
   let t = bytes-past n (d * 256) m in
   cc
 
-pub back : (n : ℕ) (xs : List ℕ) (i : ℕ) → ((k : ℕ) → Fits w8 (getD xs k 0)) → i + n ≤ length xs → bytes n (number n xs i) ++ drop (i + n) xs ≡ drop i xs
+pub back : (n : ℕ) (xs : List ℕ) (i : ℕ) → ((k : ℕ) → Fits w8 (getD xs k 0)) → i + n ≤ length xs → bytes n (bigEndian n xs i) ++ drop (i + n) xs ≡ drop i xs
 back zero xs i b h = ap (λ j. drop j xs) (add-zero i)
 back (suc n) xs i b h =
-  let m = number n xs (i + 1) in
+  let m = bigEndian n xs (i + 1) in
   let q = digits-div (getD xs i 0) (number-below n xs (i + 1) b) in
   let f = b i .fits in
   let s : getD xs i 0 % 256 ≡ getD xs i 0 = omega arith in

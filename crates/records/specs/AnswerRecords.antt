@@ -7,37 +7,36 @@ use lib.ListN.{length, getD, drop}
 use mir.Syntax.{w32}
 use mir.Val.{toZ, ofZ}
 use Rattle.std.specs.declared.result.Result.the-variants.{Ok, Err}
-use Rattle.records.specs.Layout.{number, bytes, unknown-kind, cut-short, Reading, whole}
+use Rattle.records.specs.Layout.{bigEndian, bytes, unknown-kind, cut-short, Reading, whole}
 use Rattle.records.specs.declared.answer.Activity.{Activity}
 use Rattle.records.specs.declared.answer.Activity.the-variants.{Active, Waiting}
 use Rattle.records.specs.declared.answer.Answer.{Answer}
 use Rattle.records.specs.declared.answer.Answer.the-variants.{Opened, Value, Written, Committed, Aborted, Wait, Deadlock, Refused, StillOpen, Holds}
 
--- the state byte
 abbrev pub state-byte : Activity → ℕ
 state-byte Active = 0
 state-byte Waiting = 1
 
--- an open transaction and its state: any other state byte is refused, once the body is whole
+-- an open transaction with its state: a state byte above 1 is refused, once the body is whole
 abbrev pub stillOpen : List ℕ → Reading Answer
 stillOpen bs =
-    cond (eqb (getD bs 3 0) 0) (whole 4 (StillOpen (number 2 bs 1) Active) bs)
-    (cond (eqb (getD bs 3 0) 1) (whole 4 (StillOpen (number 2 bs 1) Waiting) bs)
-    (Err unknown-kind))
+    cond (ltb (length bs) 4) (Err cut-short)
+    (cond (ltb 1 (getD bs 3 0)) (Err unknown-kind)
+    (Ok (StillOpen (bigEndian 2 bs 1) (cond (eqb (getD bs 3 0) 0) Active Waiting), drop 4 bs)))
 
 -- the answer that begins with the kind k
 abbrev pub answerOf : ℕ → List ℕ → Reading Answer
 answerOf k bs =
-    cond (eqb k 17) (whole 3 (Opened (number 2 bs 1)) bs)
-    (cond (eqb k 18) (whole 9 (Value (number 2 bs 1) (number 2 bs 3) (toZ w32 (number 4 bs 5))) bs)
-    (cond (eqb k 19) (whole 5 (Written (number 2 bs 1) (number 2 bs 3)) bs)
-    (cond (eqb k 20) (whole 3 (Committed (number 2 bs 1)) bs)
-    (cond (eqb k 21) (whole 3 (Aborted (number 2 bs 1)) bs)
-    (cond (eqb k 22) (whole 5 (Wait (number 2 bs 1) (number 2 bs 3)) bs)
-    (cond (eqb k 23) (whole 3 (Deadlock (number 2 bs 1)) bs)
-    (cond (eqb k 24) (whole 7 (Refused (number 1 bs 1) (number 1 bs 2) (number 4 bs 3)) bs)
+    cond (eqb k 17) (whole 3 (Opened (bigEndian 2 bs 1)) bs)
+    (cond (eqb k 18) (whole 9 (Value (bigEndian 2 bs 1) (bigEndian 2 bs 3) (toZ w32 (bigEndian 4 bs 5))) bs)
+    (cond (eqb k 19) (whole 5 (Written (bigEndian 2 bs 1) (bigEndian 2 bs 3)) bs)
+    (cond (eqb k 20) (whole 3 (Committed (bigEndian 2 bs 1)) bs)
+    (cond (eqb k 21) (whole 3 (Aborted (bigEndian 2 bs 1)) bs)
+    (cond (eqb k 22) (whole 5 (Wait (bigEndian 2 bs 1) (bigEndian 2 bs 3)) bs)
+    (cond (eqb k 23) (whole 3 (Deadlock (bigEndian 2 bs 1)) bs)
+    (cond (eqb k 24) (whole 7 (Refused (getD bs 1 0) (getD bs 2 0) (bigEndian 4 bs 3)) bs)
     (cond (eqb k 25) (stillOpen bs)
-    (cond (eqb k 26) (whole 7 (Holds (number 2 bs 1) (toZ w32 (number 4 bs 3))) bs)
+    (cond (eqb k 26) (whole 7 (Holds (bigEndian 2 bs 1) (toZ w32 (bigEndian 4 bs 3))) bs)
     (Err unknown-kind))))))))))
 
 abbrev pub readAnswer : List ℕ → Reading Answer
@@ -52,6 +51,6 @@ answerBytes (Committed t) = 20 ∷ bytes 2 t
 answerBytes (Aborted t) = 21 ∷ bytes 2 t
 answerBytes (Wait t blocker) = 22 ∷ (bytes 2 t ++ bytes 2 blocker)
 answerBytes (Deadlock t) = 23 ∷ bytes 2 t
-answerBytes (Refused layer number place) = 24 ∷ (bytes 1 layer ++ (bytes 1 number ++ bytes 4 place))
-answerBytes (StillOpen t state) = 25 ∷ (bytes 2 t ++ bytes 1 (state-byte state))
+answerBytes (Refused layer number place) = 24 ∷ layer ∷ number ∷ bytes 4 place
+answerBytes (StillOpen t state) = 25 ∷ (bytes 2 t ++ (state-byte state ∷ []))
 answerBytes (Holds item value) = 26 ∷ (bytes 2 item ++ bytes 4 (ofZ w32 value))

@@ -12,9 +12,9 @@ use Rattle.records.specs.declared.refusal.Reason.the-variants.{UnknownKind, Bo
 use Rattle.records.specs.declared.refusal.Refusal.{Refusal}
 
 -- the number that the n bytes of bs from i on make, high byte first
-abbrev pub number : ℕ → List ℕ → ℕ → ℕ
-number zero bs i = 0
-number (suc n) bs i = getD bs i 0 * 256 ^ n + number n bs (i + 1)
+abbrev pub bigEndian : ℕ → List ℕ → ℕ → ℕ
+bigEndian zero bs i = 0
+bigEndian (suc n) bs i = getD bs i 0 * 256 ^ n + bigEndian n bs (i + 1)
 
 -- the n bytes of a number, high byte first
 abbrev pub bytes : ℕ → ℕ → List ℕ

@@ -6,7 +6,7 @@ use lib.Dec.{eqb}
 use mir.Syntax.{w32}
 use mir.Val.{toZ, ofZ}
 use Rattle.std.specs.declared.result.Result.the-variants.{Err}
-use Rattle.records.specs.Layout.{number, bytes, unknown-kind, cut-short, Reading, whole}
+use Rattle.records.specs.Layout.{bigEndian, bytes, unknown-kind, cut-short, Reading, whole}
 use Rattle.records.specs.declared.request.Request.{Request}
 use Rattle.records.specs.declared.request.Request.the-variants.{Begin, Read, Write, Commit, Abort, Retry}
 
@@ -14,11 +14,11 @@ use Rattle.records.specs.declared.request.Request.the-variants.{Begin, Read, W
 abbrev pub requestOf : ℕ → List ℕ → Reading Request
 requestOf k bs =
     cond (eqb k 1) (whole 1 Begin bs)
-    (cond (eqb k 2) (whole 5 (Read (number 2 bs 1) (number 2 bs 3)) bs)
-    (cond (eqb k 3) (whole 9 (Write (number 2 bs 1) (number 2 bs 3) (toZ w32 (number 4 bs 5))) bs)
-    (cond (eqb k 4) (whole 3 (Commit (number 2 bs 1)) bs)
-    (cond (eqb k 5) (whole 3 (Abort (number 2 bs 1)) bs)
-    (cond (eqb k 6) (whole 3 (Retry (number 2 bs 1)) bs)
+    (cond (eqb k 2) (whole 5 (Read (bigEndian 2 bs 1) (bigEndian 2 bs 3)) bs)
+    (cond (eqb k 3) (whole 9 (Write (bigEndian 2 bs 1) (bigEndian 2 bs 3) (toZ w32 (bigEndian 4 bs 5))) bs)
+    (cond (eqb k 4) (whole 3 (Commit (bigEndian 2 bs 1)) bs)
+    (cond (eqb k 5) (whole 3 (Abort (bigEndian 2 bs 1)) bs)
+    (cond (eqb k 6) (whole 3 (Retry (bigEndian 2 bs 1)) bs)
     (Err unknown-kind))))))
 
 abbrev pub readRequest : List ℕ → Reading Request
