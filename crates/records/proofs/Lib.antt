@@ -1,2 +1,4 @@
 mod Widths
 mod Reading
+mod OwnShapes
+mod Cut

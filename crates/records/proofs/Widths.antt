@@ -11,7 +11,10 @@ use mir.Val.{Fits}
 use Rattle.std.proofs.shelf.Lists.{drop-more}
 use Rattle.records.specs.Layout.{bigEndian, bytes}
 
-pub number-below : (n : ℕ) (xs : List ℕ) (i : ℕ) → ((k : ℕ) → Fits w8 (getD xs k 0)) → bigEndian n xs i < 256 ^ n
+abbrev pub Bytes : List ℕ → Type 0
+Bytes xs = (k : ℕ) → Fits w8 (getD xs k 0)
+
+pub number-below : (n : ℕ) (xs : List ℕ) (i : ℕ) → Bytes xs → bigEndian n xs i < 256 ^ n
 number-below zero xs i b = omega arith
 number-below (suc n) xs i b = rw pow-succ' (digits-lt (b i .fits) (number-below n xs (i + 1) b))
 
@@ -26,7 +29,7 @@ bytes-past (suc n) d m =
   let t = bytes-past n (d * 256) m in
   cc
 
-pub back : (n : ℕ) (xs : List ℕ) (i : ℕ) → ((k : ℕ) → Fits w8 (getD xs k 0)) → i + n ≤ length xs → bytes n (bigEndian n xs i) ++ drop (i + n) xs ≡ drop i xs
+pub back : (n : ℕ) (xs : List ℕ) (i : ℕ) → Bytes xs → i + n ≤ length xs → bytes n (bigEndian n xs i) ++ drop (i + n) xs ≡ drop i xs
 back zero xs i b h = ap (λ j. drop j xs) (add-zero i)
 back (suc n) xs i b h =
   let m = bigEndian n xs (i + 1) in

@@ -13,16 +13,28 @@ use Rattle.records.specs.declared.answer.Activity.the-variants.{Active, Waitin
 use Rattle.records.specs.declared.answer.Answer.{Answer}
 use Rattle.records.specs.declared.answer.Answer.the-variants.{Opened, Value, Written, Committed, Aborted, Wait, Deadlock, Refused, StillOpen, Holds}
 
+-- how long the body of an answer is
+abbrev pub body-length : ℕ → ℕ
+body-length k =
+    cond (eqb k 18) 8
+    (cond (eqb k 24) 6
+    (cond (eqb k 26) 6
+    (cond (eqb k 19) 4
+    (cond (eqb k 22) 4
+    (cond (eqb k 25) 3
+    (cond (ltb k 17) 0
+    (cond (ltb 26 k) 0 2)))))))
+
 abbrev pub state-byte : Activity → ℕ
 state-byte Active = 0
 state-byte Waiting = 1
 
--- an open transaction with its state: a state byte above 1 is refused, once the body is whole
-abbrev pub stillOpen : List ℕ → Reading Answer
-stillOpen bs =
+-- an open transaction with its state byte: one above 1 is refused, once the body is whole
+abbrev pub stillOpen : ℕ → List ℕ → Reading Answer
+stillOpen state bs =
     cond (ltb (length bs) 4) (Err cut-short)
-    (cond (ltb 1 (getD bs 3 0)) (Err unknown-kind)
-    (Ok (StillOpen (bigEndian 2 bs 1) (cond (eqb (getD bs 3 0) 0) Active Waiting), drop 4 bs)))
+    (cond (ltb 1 state) (Err unknown-kind)
+    (Ok (StillOpen (bigEndian 2 bs 1) (cond (eqb state 0) Active Waiting), drop 4 bs)))
 
 -- the answer that begins with the kind k
 abbrev pub answerOf : ℕ → List ℕ → Reading Answer
@@ -35,7 +47,7 @@ answerOf k bs =
     (cond (eqb k 22) (whole 5 (Wait (bigEndian 2 bs 1) (bigEndian 2 bs 3)) bs)
     (cond (eqb k 23) (whole 3 (Deadlock (bigEndian 2 bs 1)) bs)
     (cond (eqb k 24) (whole 7 (Refused (getD bs 1 0) (getD bs 2 0) (bigEndian 4 bs 3)) bs)
-    (cond (eqb k 25) (stillOpen bs)
+    (cond (eqb k 25) (stillOpen (getD bs 3 0) bs)
     (cond (eqb k 26) (whole 7 (Holds (bigEndian 2 bs 1) (toZ w32 (bigEndian 4 bs 3))) bs)
     (Err unknown-kind))))))))))
 

@@ -1,10 +1,15 @@
 // The readers of requests and answers.
 ghost use mathlib.Core.Path.{_≡_};
-ghost use mathlib.Core.List.{_++_};
+ghost use mathlib.Core.List.{_∷_, _++_};
 ghost use Rattle.std.specs.Results.{Cases};
 ghost use Rattle.std.specs.Vec.{made};
 ghost use Rattle.std.specs.declared.result.Result.the-variants.{Ok, Err};
+ghost use Rattle.records.specs.AnswerRecords.{readAnswer, answerBytes, body-length};
 ghost use Rattle.records.specs.RequestRecords.{readRequest, requestBytes};
+use crate::answer::Activity;
+use crate::answer::Answer;
+use crate::number::four;
+use crate::number::two;
 use crate::refusal::Layer;
 use crate::refusal::Reason;
 use crate::refusal::Refusal;
@@ -36,5 +41,58 @@ pub fn read_request(input: &[u8]) -> Result<(Request, &[u8]), Refusal>
         [6, t1, t0, rest @ ..] => Ok((Request::Retry { t: u16::from_be_bytes([*t1, *t0]) }, rest)),
         [] | [2..=6, ..] => Err(CUT_SHORT),
         _ => Err(UNKNOWN_KIND),
+    }
+}
+
+/// The answer at the start of `input`, and the rest of the input.
+pub fn read_answer(input: &[u8]) -> Result<(Answer, &[u8]), Refusal>
+    ensures reads { λ r. ⌜ Cases r (λ p. readAnswer (now (input .entry)) ≡ Ok (p .0, now (p .1))) (λ e. readAnswer (now (input .entry)) ≡ Err e) ⌝ }
+    ensures writes_back { λ r. ⌜ made r (λ p. answerBytes (p .0) ++ now (p .1) ≡ now (input .entry)) ⌝ }
+{
+    match input {
+        [] => Err(CUT_SHORT),
+        [kind, body @ ..] => read_body(*kind, body),
+    }
+}
+
+fn read_body(kind: u8, body: &[u8]) -> Result<(Answer, &[u8]), Refusal>
+    ensures reads { λ r. ⌜ Cases r (λ p. readAnswer (kind ∷ now (body .entry)) ≡ Ok (p .0, now (p .1))) (λ e. readAnswer (kind ∷ now (body .entry)) ≡ Err e) ⌝ }
+    ensures writes_back { λ r. ⌜ made r (λ p. answerBytes (p .0) ++ now (p .1) ≡ kind ∷ now (body .entry)) ⌝ }
+{
+    match kind {
+        17..=26 if body.len() < body_length(kind) => Err(CUT_SHORT),
+        17 => Ok((Answer::Opened { t: two(body, 0) }, &body[2..])),
+        18 => {
+            let value = four(body, 4).cast_signed();
+            Ok((Answer::Value { t: two(body, 0), item: two(body, 2), value }, &body[8..]))
+        }
+        19 => Ok((Answer::Written { t: two(body, 0), item: two(body, 2) }, &body[4..])),
+        20 => Ok((Answer::Committed { t: two(body, 0) }, &body[2..])),
+        21 => Ok((Answer::Aborted { t: two(body, 0) }, &body[2..])),
+        22 => Ok((Answer::Wait { t: two(body, 0), blocker: two(body, 2) }, &body[4..])),
+        23 => Ok((Answer::Deadlock { t: two(body, 0) }, &body[2..])),
+        24 => {
+            let place = four(body, 2);
+            Ok((Answer::Refused { layer: body[0], number: body[1], place }, &body[6..]))
+        }
+        25 if body[2] > 1 => Err(UNKNOWN_KIND),
+        25 if body[2] == 1 => Ok((Answer::StillOpen { t: two(body, 0), state: Activity::Waiting }, &body[3..])),
+        25 => Ok((Answer::StillOpen { t: two(body, 0), state: Activity::Active }, &body[3..])),
+        26 => Ok((Answer::Holds { item: two(body, 0), value: four(body, 2).cast_signed() }, &body[6..])),
+        _ => Err(UNKNOWN_KIND),
+    }
+}
+
+// How long the body of an answer is.
+fn body_length(kind: u8) -> usize
+    ensures { λ r. ⌜ r ≡ body-length kind ⌝ }
+{
+    match kind {
+        17 | 20 | 21 | 23 => 2,
+        25 => 3,
+        19 | 22 => 4,
+        24 | 26 => 6,
+        18 => 8,
+        _ => 0,
     }
 }
