@@ -34,27 +34,27 @@ skipped (suc k) p [] h = absurd (omega arith)
 skipped (suc k) p (b ∷ bs) h = skipped k (p + 1) bs (omega arith) ∙ ap (λ j. held 0 j (drop k bs)) (omega arith)
 
 held-request : (p n : ℕ) (bs rest : List ℕ) (q : Request) → readRequest bs ≡ Ok (q, rest) → requestBytes q ++ rest ≡ bs → n ≡ p + (length bs - length rest)
-  → held 0 p bs ≡ behind (placed p q ∷ []) (held 0 n rest)
+    → held 0 p bs ≡ behind (placed p q ∷ []) (held 0 n rest)
 held-request p n [] rest q e w l = let z : _≡_ {A = ℕ} 0 1 = cc in absurd (omega arith)
 held-request p n (b ∷ bs) rest q e w l =
-  let m = length (requestBytes q) - 1 in
-  let o = long q in
-  let s : length (requestBytes q) + length rest ≡ suc (length bs) = sym (length-append (requestBytes q) rest) ∙ ap length w in
-  let k = skipped m (p + 1) bs (omega arith) in
-  let i : suc m ≡ length (requestBytes q) = omega arith in
-  let d : drop m bs ≡ rest = ap (λ j. drop j (b ∷ bs)) i ∙ ap (drop (length (requestBytes q))) (sym w) ∙ drop-at (requestBytes q) rest _ refl in
-  let j : p + 1 + m ≡ n = omega arith in
-  let t : held m (p + 1) bs ≡ held 0 n rest = k ∙ ap (λ x. held 0 x (drop m bs)) j ∙ ap (held 0 n) d in
-  ap (λ r. next p r (λ skip. held skip (p + 1) bs)) e ∙ ap (behind (placed p q ∷ [])) t
+    let m = length (requestBytes q) - 1 in
+    let o = long q in
+    let s : length (requestBytes q) + length rest ≡ suc (length bs) = sym (length-append (requestBytes q) rest) ∙ ap length w in
+    let k = skipped m (p + 1) bs (omega arith) in
+    let i : suc m ≡ length (requestBytes q) = omega arith in
+    let d : drop m bs ≡ rest = ap (λ j. drop j (b ∷ bs)) i ∙ ap (drop (length (requestBytes q))) (sym w) ∙ drop-at (requestBytes q) rest _ refl in
+    let j : p + 1 + m ≡ n = omega arith in
+    let t : held m (p + 1) bs ≡ held 0 n rest = k ∙ ap (λ x. held 0 x (drop m bs)) j ∙ ap (held 0 n) d in
+    ap (λ r. next p r (λ skip. held skip (p + 1) bs)) e ∙ ap (behind (placed p q ∷ [])) t
 
 -- a turn of the loop
 pub one-more : (found grown : List Placed) (p n : ℕ) (bs rest : List ℕ) (q : Request) (all : Held)
-  → grown ≡ found ++ placed p q ∷ [] → readRequest bs ≡ Ok (q, rest) → requestBytes q ++ rest ≡ bs → n ≡ p + (length bs - length rest)
-  → behind found (held 0 p bs) ≡ all → behind grown (held 0 n rest) ≡ all
+    → grown ≡ found ++ placed p q ∷ [] → readRequest bs ≡ Ok (q, rest) → requestBytes q ++ rest ≡ bs → n ≡ p + (length bs - length rest)
+    → behind found (held 0 p bs) ≡ all → behind grown (held 0 n rest) ≡ all
 one-more found grown p n bs rest q all g e w l a =
-  ap (λ xs. behind xs (held 0 n rest)) g
-  ∙ ap (λ xs. (xs, held 0 n rest .1)) (append-assoc found (placed p q ∷ []) (held 0 n rest .0))
-  ∙ ap (behind found) (sym (held-request p n bs rest q e w l)) ∙ a
+    ap (λ xs. behind xs (held 0 n rest)) g
+    ∙ ap (λ xs. (xs, held 0 n rest .1)) (append-assoc found (placed p q ∷ []) (held 0 n rest .0))
+    ∙ ap (behind found) (sym (held-request p n bs rest q e w l)) ∙ a
 
 -- the loop's end
 pub all-read : (found : List Placed) (p : ℕ) (rest : List ℕ) (all : Held) → length rest ≡ 0 → behind found (held 0 p rest) ≡ all → (found, Whole) ≡ all

@@ -1,10 +1,13 @@
 // What is found in a request file.
+use records::refusal::ReasonDisplay;
 use records::refusal::Refusal;
 use records::refusal::RefusalDebug;
 use records::refusal::RefusalPartialEq;
 use records::request::Request;
 use records::request::RequestDebug;
+use records::request::RequestDisplay;
 use records::request::RequestPartialEq;
+use std::fmt;
 
 /// A request, and the offset of its kind byte in the file.
 #[derive(Clone, Copy, PartialEq, Eq, Debug)]
@@ -18,4 +21,27 @@ pub struct Placed {
 pub enum Ending {
     Whole,
     Refused { refusal: Refusal, place: u32 },
+}
+
+pub impl fmt::Display for Placed as PlacedDisplay {
+    fn fmt<W: fmt::Write>(&self, f: &mut fmt::Formatter<W>) -> fmt::Result {
+        let place = self.place;
+        let request = self.request;
+        write!(f, "place {place}: {request}")
+    }
+}
+
+pub impl fmt::Display for Ending as EndingDisplay {
+    fn fmt<W: fmt::Write>(&self, f: &mut fmt::Formatter<W>) -> fmt::Result {
+        match *self {
+            Ending::Whole => f.write_str("the file is whole"),
+            Ending::Refused { refusal, place } => {
+                let reason = refusal.reason;
+                write!(
+                    f,
+                    "{reason} at place {place}: nothing from there on is read"
+                )
+            }
+        }
+    }
 }

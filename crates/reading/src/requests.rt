@@ -21,7 +21,10 @@ pub fn requests_in(heap: Global, input: &[u8]) -> Result<(Vec<Placed>, Ending), 
 {
     let mut found = Vec::new(heap);
     if input.len() > LIMIT {
-        let refusal = Refusal { layer: Layer::Records, reason: Reason::InputTooLong };
+        let refusal = Refusal {
+            layer: Layer::Records,
+            reason: Reason::InputTooLong,
+        };
         return Ok((found, Ending::Refused { refusal, place: 0 }));
     }
     let mut rest = input;

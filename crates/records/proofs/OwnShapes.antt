@@ -23,17 +23,17 @@ Stands xs rest q = (readAnswer xs ≡ Ok (q, rest)) × (answerBytes q ++ rest �
 
 pub refused-read : (xs rest : List ℕ) (place : ℕ) → Bytes xs → getD xs 0 0 ≡ 24 → 7 ≤ length xs → rest ≡ drop 7 xs → place ≡ bigEndian 4 xs 3 → Stands xs rest (Refused (getD xs 1 0) (getD xs 2 0) place)
 refused-read xs rest place b e h r p =
-  rw p (record-read readAnswer answerOf answerBytes (λ _ _. refl) 24 6 (Refused (getD xs 1 0) (getD xs 2 0) (bigEndian 4 xs 3)) xs rest _ e h r refl refl
-  (ap (λ z. getD xs 1 0 ∷ getD xs 2 0 ∷ z) (back 4 xs 3 b h) ∙ ap (λ z. getD xs 1 0 ∷ z) (sym (drop-more xs 2 0 (omega arith))) ∙ sym (drop-more xs 1 0 (omega arith))))
+    rw p (record-read readAnswer answerOf answerBytes (λ _ _. refl) 24 6 (Refused (getD xs 1 0) (getD xs 2 0) (bigEndian 4 xs 3)) xs rest _ e h r refl refl
+    (ap (λ z. getD xs 1 0 ∷ getD xs 2 0 ∷ z) (back 4 xs 3 b h) ∙ ap (λ z. getD xs 1 0 ∷ z) (sym (drop-more xs 2 0 (omega arith))) ∙ sym (drop-more xs 1 0 (omega arith))))
 
 pub still-open-read : (xs rest : List ℕ) (t : ℕ) (state : Activity) → Bytes xs → getD xs 0 0 ≡ 25 → 4 ≤ length xs → rest ≡ drop 4 xs → t ≡ bigEndian 2 xs 1
-  → getD xs 3 0 ≡ state-byte state → stillOpen (state-byte state) xs ≡ whole 4 (StillOpen (bigEndian 2 xs 1) state) xs → Stands xs rest (StillOpen t state)
+    → getD xs 3 0 ≡ state-byte state → stillOpen (state-byte state) xs ≡ whole 4 (StillOpen (bigEndian 2 xs 1) state) xs → Stands xs rest (StillOpen t state)
 still-open-read xs rest t state b e h r p s o =
-  rw p (record-read readAnswer answerOf answerBytes (λ _ _. refl) 25 3 (StillOpen (bigEndian 2 xs 1) state) xs rest _ e h r (ap (λ j. stillOpen j xs) s ∙ o) refl
-  (ap (λ z. bytes 2 (bigEndian 2 xs 1) ++ z) (ap (λ j. j ∷ drop 4 xs) (sym s) ∙ sym (drop-more xs 3 0 (omega arith))) ∙ back 2 xs 1 b (omega arith)))
+    rw p (record-read readAnswer answerOf answerBytes (λ _ _. refl) 25 3 (StillOpen (bigEndian 2 xs 1) state) xs rest _ e h r (ap (λ j. stillOpen j xs) s ∙ o) refl
+    (ap (λ z. bytes 2 (bigEndian 2 xs 1) ++ z) (ap (λ j. j ∷ drop 4 xs) (sym s) ∙ sym (drop-more xs 3 0 (omega arith))) ∙ back 2 xs 1 b (omega arith)))
 
 pub holds-read : (xs rest : List ℕ) (item : ℕ) (value : ℤ) → Bytes xs → getD xs 0 0 ≡ 26 → 7 ≤ length xs → rest ≡ drop 7 xs → item ≡ bigEndian 2 xs 1 → value ≡ toZ w32 (bigEndian 4 xs 3)
-  → Stands xs rest (Holds item value)
+    → Stands xs rest (Holds item value)
 holds-read xs rest item value b e h r p q =
-  rw (p, q) (record-read readAnswer answerOf answerBytes (λ _ _. refl) 26 6 (Holds (bigEndian 2 xs 1) (toZ w32 (bigEndian 4 xs 3))) xs rest _ e h r refl refl
-  (ap (λ z. bytes 2 (bigEndian 2 xs 1) ++ z) (value-back xs 3 b h) ∙ back 2 xs 1 b (omega arith)))
+    rw (p, q) (record-read readAnswer answerOf answerBytes (λ _ _. refl) 26 6 (Holds (bigEndian 2 xs 1) (toZ w32 (bigEndian 4 xs 3))) xs rest _ e h r refl refl
+    (ap (λ z. bytes 2 (bigEndian 2 xs 1) ++ z) (value-back xs 3 b h) ∙ back 2 xs 1 b (omega arith)))

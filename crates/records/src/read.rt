@@ -15,8 +15,15 @@ use crate::refusal::Reason;
 use crate::refusal::Refusal;
 use crate::request::Request;
 
-const UNKNOWN_KIND: Refusal = Refusal { layer: Layer::Records, reason: Reason::UnknownKind };
-const CUT_SHORT: Refusal = Refusal { layer: Layer::Records, reason: Reason::BodyCutShort };
+const UNKNOWN_KIND: Refusal = Refusal {
+    layer: Layer::Records,
+    reason: Reason::UnknownKind,
+};
+
+const CUT_SHORT: Refusal = Refusal {
+    layer: Layer::Records,
+    reason: Reason::BodyCutShort,
+};
 
 /// The request at the start of `input`, and the rest of the input.
 pub fn read_request(input: &[u8]) -> Result<(Request, &[u8]), Refusal>
@@ -36,9 +43,24 @@ pub fn read_request(input: &[u8]) -> Result<(Request, &[u8]), Refusal>
             let value = i32::from_be_bytes([*v3, *v2, *v1, *v0]);
             Ok((Request::Write { t, item, value }, rest))
         }
-        [4, t1, t0, rest @ ..] => Ok((Request::Commit { t: u16::from_be_bytes([*t1, *t0]) }, rest)),
-        [5, t1, t0, rest @ ..] => Ok((Request::Abort { t: u16::from_be_bytes([*t1, *t0]) }, rest)),
-        [6, t1, t0, rest @ ..] => Ok((Request::Retry { t: u16::from_be_bytes([*t1, *t0]) }, rest)),
+        [4, t1, t0, rest @ ..] => Ok((
+            Request::Commit {
+                t: u16::from_be_bytes([*t1, *t0]),
+            },
+            rest,
+        )),
+        [5, t1, t0, rest @ ..] => Ok((
+            Request::Abort {
+                t: u16::from_be_bytes([*t1, *t0]),
+            },
+            rest,
+        )),
+        [6, t1, t0, rest @ ..] => Ok((
+            Request::Retry {
+                t: u16::from_be_bytes([*t1, *t0]),
+            },
+            rest,
+        )),
         [] | [2..=6, ..] => Err(CUT_SHORT),
         _ => Err(UNKNOWN_KIND),
     }
@@ -64,21 +86,65 @@ fn read_body(kind: u8, body: &[u8]) -> Result<(Answer, &[u8]), Refusal>
         17 => Ok((Answer::Opened { t: two(body, 0) }, &body[2..])),
         18 => {
             let value = four(body, 4).cast_signed();
-            Ok((Answer::Value { t: two(body, 0), item: two(body, 2), value }, &body[8..]))
+            Ok((
+                Answer::Value {
+                    t: two(body, 0),
+                    item: two(body, 2),
+                    value,
+                },
+                &body[8..],
+            ))
         }
-        19 => Ok((Answer::Written { t: two(body, 0), item: two(body, 2) }, &body[4..])),
+        19 => Ok((
+            Answer::Written {
+                t: two(body, 0),
+                item: two(body, 2),
+            },
+            &body[4..],
+        )),
         20 => Ok((Answer::Committed { t: two(body, 0) }, &body[2..])),
         21 => Ok((Answer::Aborted { t: two(body, 0) }, &body[2..])),
-        22 => Ok((Answer::Wait { t: two(body, 0), blocker: two(body, 2) }, &body[4..])),
+        22 => Ok((
+            Answer::Wait {
+                t: two(body, 0),
+                blocker: two(body, 2),
+            },
+            &body[4..],
+        )),
         23 => Ok((Answer::Deadlock { t: two(body, 0) }, &body[2..])),
         24 => {
             let place = four(body, 2);
-            Ok((Answer::Refused { layer: body[0], number: body[1], place }, &body[6..]))
+            Ok((
+                Answer::Refused {
+                    layer: body[0],
+                    number: body[1],
+                    place,
+                },
+                &body[6..],
+            ))
         }
         25 if body[2] > 1 => Err(UNKNOWN_KIND),
-        25 if body[2] == 1 => Ok((Answer::StillOpen { t: two(body, 0), state: Activity::Waiting }, &body[3..])),
-        25 => Ok((Answer::StillOpen { t: two(body, 0), state: Activity::Active }, &body[3..])),
-        26 => Ok((Answer::Holds { item: two(body, 0), value: four(body, 2).cast_signed() }, &body[6..])),
+        25 if body[2] == 1 => Ok((
+            Answer::StillOpen {
+                t: two(body, 0),
+                state: Activity::Waiting,
+            },
+            &body[3..],
+        )),
+        25 => Ok((
+            Answer::StillOpen {
+                t: two(body, 0),
+                state: Activity::Active,
+            },
+            &body[3..],
+        )),
+        26 => Ok((
+            Answer::Holds {
+                item: two(body, 0),
+                value: four(body, 2).cast_signed(),
+            },
+            &body[6..],
+        )),
         _ => Err(UNKNOWN_KIND),
     }
 }

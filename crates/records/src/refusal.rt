@@ -1,6 +1,7 @@
 // Why a call is refused, and which layer refused it.
 ghost use mathlib.Core.Path.{_≡_};
 ghost use Rattle.records.specs.Refusals.{layer-number, reason-number};
+use std::fmt;
 
 #[derive(Clone, Copy, PartialEq, Eq, Debug)]
 pub enum Layer {
@@ -68,5 +69,29 @@ impl Reason {
             Reason::PendingAtOpening => 14,
             Reason::ItemTaken => 15,
         }
+    }
+}
+
+pub impl fmt::Display for Reason as ReasonDisplay {
+    fn fmt<W: fmt::Write>(&self, f: &mut fmt::Formatter<W>) -> fmt::Result {
+        f.write_str(
+            match *self {
+                Reason::UnknownKind => "unknown kind",
+                Reason::BodyCutShort => "cut short",
+                Reason::InputTooLong => "too long",
+                Reason::NotOpen => "not open",
+                Reason::Waiting => "waiting",
+                Reason::NotWaiting => "not waiting",
+                Reason::NoSuchItem => "no such item",
+                Reason::TooManyOpen => "too many open",
+                Reason::NumbersSpent => "numbers spent",
+                Reason::LockListFull => "lock list full",
+                Reason::NoRoom => "no room",
+                Reason::OutputTooShort => "output too short",
+                Reason::Pair => "this rule does not suit this store",
+                Reason::PendingAtOpening => "pending writes at opening",
+                Reason::ItemTaken => "item taken",
+            },
+        )
     }
 }

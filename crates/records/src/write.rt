@@ -43,7 +43,11 @@ pub fn write_answer(answer: Answer, out: &mut [u8]) -> Result<usize, Refusal>
         Answer::Aborted { t } => put_one(out, 21, t),
         Answer::Wait { t, blocker } => put_two(out, 22, t, blocker),
         Answer::Deadlock { t } => put_one(out, 23, t),
-        Answer::Refused { layer, number, place } => {
+        Answer::Refused {
+            layer,
+            number,
+            place,
+        } => {
             let [p3, p2, p1, p0] = place.to_be_bytes();
             put(out, &[24, layer, number, p3, p2, p1, p0])
         }
@@ -100,7 +104,10 @@ fn put(out: &mut [u8], from: &[u8]) -> Result<usize, Refusal>
 {
     let n = from.len();
     if out.len() < n {
-        return Err(Refusal { layer: Layer::Records, reason: Reason::OutputTooShort });
+        return Err(Refusal {
+            layer: Layer::Records,
+            reason: Reason::OutputTooShort,
+        });
     }
     out[..n].copy_from_slice(from);
     Ok(n)

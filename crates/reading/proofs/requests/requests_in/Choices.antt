@@ -9,8 +9,8 @@ use Rattle.reading.proofs.requests.requests_in.Given as given
 -- what was found, and what the rest holds, is what the input holds
 abbrev pub Inv-loop-rest : given.InvT-loop-rest
 Inv-loop-rest l =
-  (length (l .rest) ≤ length (l .input))
-  × (behind (vec-items (l .found)) (held 0 (length (l .input) - length (l .rest)) (l .rest)) ≡ held 0 0 (l .input))
+    (length (l .rest) ≤ length (l .input))
+    × (behind (vec-items (l .found)) (held 0 (length (l .input) - length (l .rest)) (l .rest)) ≡ held 0 0 (l .input))
 
 abbrev pub μ-loop-rest : given.MeasureT-loop-rest
 μ-loop-rest l = length (l .rest)
