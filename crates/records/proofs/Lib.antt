@@ -1,4 +1,4 @@
 mod Widths
 mod Reading
-mod OwnShapes
+mod AnswerShapes
 mod Cut

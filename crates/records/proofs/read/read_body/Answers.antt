@@ -12,8 +12,8 @@ use Rattle.records.specs.Layout.{bigEndian}
 use Rattle.records.specs.AnswerRecords.{readAnswer, answerOf, answerBytes}
 use Rattle.records.specs.declared.answer.Activity.the-variants.{Active, Waiting}
 use Rattle.records.specs.declared.answer.Answer.the-variants.{Opened, Value, Written, Committed, Aborted, Wait, Deadlock}
-use Rattle.records.proofs.Reading.{bytes-cons, one-number, two-numbers, numbers-and-value}
-use Rattle.records.proofs.OwnShapes.{refused-read, still-open-read, holds-read}
+use Rattle.records.proofs.Reading.{bytes-cons, numbers-and-value}
+use Rattle.records.proofs.AnswerShapes.{one-answer, two-answer, refused-read, still-open-read, holds-read}
 use Rattle.records.proofs.Cut.{answer-cut}
 use Rattle.records.proofs.read.read_body.Needs as need
 
@@ -22,11 +22,7 @@ returns-in-17-to-26 c = record { reads = answer-cut (c .args .kind) (c .args .bo
 
 pub returns-in-17 : need.returns-in-17
 returns-in-17 c =
-    let xs = c .args .body .now in
-    let f : Fits w8 (c .args .kind) = search needs in
-    let k : c .args .kind ≡ 17 = search needs in
-    let n : 2 ≤ length xs = search needs in
-    let p = one-number readAnswer answerOf answerBytes (λ _ _. refl) 17 Opened (λ _. refl) (λ _. refl) (c .args .kind ∷ xs) _ (c .two .result) (bytes-cons _ xs f (c .typed .body)) k (omega arith) (take-rest xs 2) (search needs) in
+    let p = one-answer 17 Opened (λ _. refl) (λ _. refl) (c .args .kind) (c .args .body .now) _ (c .two .result) (search needs) (c .typed .body) (search needs) (search needs) (take-rest (c .args .body .now) 2) (search needs) in
     record { reads = p .0; writes-back = p .1 }
 
 pub returns-in-18 : need.returns-in-18
@@ -43,47 +39,27 @@ returns-in-18 c =
 
 pub returns-in-19 : need.returns-in-19
 returns-in-19 c =
-    let xs = c .args .body .now in
-    let f : Fits w8 (c .args .kind) = search needs in
-    let k : c .args .kind ≡ 19 = search needs in
-    let n : 4 ≤ length xs = search needs in
-    let p = two-numbers readAnswer answerOf answerBytes (λ _ _. refl) 19 Written (λ _. refl) (λ _ _. refl) (c .args .kind ∷ xs) _ (c .two-in-19 .result) (c .two-in-19-2 .result) (bytes-cons _ xs f (c .typed .body)) k (omega arith) (take-rest xs 4) (search needs) (search needs) in
+    let p = two-answer 19 Written (λ _. refl) (λ _ _. refl) (c .args .kind) (c .args .body .now) _ (c .two-in-19 .result) (c .two-in-19-2 .result) (search needs) (c .typed .body) (search needs) (search needs) (take-rest (c .args .body .now) 4) (search needs) (search needs) in
     record { reads = p .0; writes-back = p .1 }
 
 pub returns-in-20 : need.returns-in-20
 returns-in-20 c =
-    let xs = c .args .body .now in
-    let f : Fits w8 (c .args .kind) = search needs in
-    let k : c .args .kind ≡ 20 = search needs in
-    let n : 2 ≤ length xs = search needs in
-    let p = one-number readAnswer answerOf answerBytes (λ _ _. refl) 20 Committed (λ _. refl) (λ _. refl) (c .args .kind ∷ xs) _ (c .two-in-20 .result) (bytes-cons _ xs f (c .typed .body)) k (omega arith) (take-rest xs 2) (search needs) in
+    let p = one-answer 20 Committed (λ _. refl) (λ _. refl) (c .args .kind) (c .args .body .now) _ (c .two-in-20 .result) (search needs) (c .typed .body) (search needs) (search needs) (take-rest (c .args .body .now) 2) (search needs) in
     record { reads = p .0; writes-back = p .1 }
 
 pub returns-in-21 : need.returns-in-21
 returns-in-21 c =
-    let xs = c .args .body .now in
-    let f : Fits w8 (c .args .kind) = search needs in
-    let k : c .args .kind ≡ 21 = search needs in
-    let n : 2 ≤ length xs = search needs in
-    let p = one-number readAnswer answerOf answerBytes (λ _ _. refl) 21 Aborted (λ _. refl) (λ _. refl) (c .args .kind ∷ xs) _ (c .two-in-21 .result) (bytes-cons _ xs f (c .typed .body)) k (omega arith) (take-rest xs 2) (search needs) in
+    let p = one-answer 21 Aborted (λ _. refl) (λ _. refl) (c .args .kind) (c .args .body .now) _ (c .two-in-21 .result) (search needs) (c .typed .body) (search needs) (search needs) (take-rest (c .args .body .now) 2) (search needs) in
     record { reads = p .0; writes-back = p .1 }
 
 pub returns-in-22 : need.returns-in-22
 returns-in-22 c =
-    let xs = c .args .body .now in
-    let f : Fits w8 (c .args .kind) = search needs in
-    let k : c .args .kind ≡ 22 = search needs in
-    let n : 4 ≤ length xs = search needs in
-    let p = two-numbers readAnswer answerOf answerBytes (λ _ _. refl) 22 Wait (λ _. refl) (λ _ _. refl) (c .args .kind ∷ xs) _ (c .two-in-22 .result) (c .two-in-22-2 .result) (bytes-cons _ xs f (c .typed .body)) k (omega arith) (take-rest xs 4) (search needs) (search needs) in
+    let p = two-answer 22 Wait (λ _. refl) (λ _ _. refl) (c .args .kind) (c .args .body .now) _ (c .two-in-22 .result) (c .two-in-22-2 .result) (search needs) (c .typed .body) (search needs) (search needs) (take-rest (c .args .body .now) 4) (search needs) (search needs) in
     record { reads = p .0; writes-back = p .1 }
 
 pub returns-in-23 : need.returns-in-23
 returns-in-23 c =
-    let xs = c .args .body .now in
-    let f : Fits w8 (c .args .kind) = search needs in
-    let k : c .args .kind ≡ 23 = search needs in
-    let n : 2 ≤ length xs = search needs in
-    let p = one-number readAnswer answerOf answerBytes (λ _ _. refl) 23 Deadlock (λ _. refl) (λ _. refl) (c .args .kind ∷ xs) _ (c .two-in-23 .result) (bytes-cons _ xs f (c .typed .body)) k (omega arith) (take-rest xs 2) (search needs) in
+    let p = one-answer 23 Deadlock (λ _. refl) (λ _. refl) (c .args .kind) (c .args .body .now) _ (c .two-in-23 .result) (search needs) (c .typed .body) (search needs) (search needs) (take-rest (c .args .body .now) 2) (search needs) in
     record { reads = p .0; writes-back = p .1 }
 
 pub returns-in-24 : need.returns-in-24

@@ -1,8 +1,6 @@
-use Prim.Native.Nat.{_≤_}
 use mathlib.Core.Path.{_≡_, refl, _∙_}
 use mathlib.Core.List.{[]}
 use borrow.Author.Needs.{needs}
-use lib.ListN.{length, getD}
 use mir.Syntax.{w32}
 use mir.Val.{SFits, toZ}
 use Rattle.std.proofs.shelf.Lists.{take-rest}
@@ -16,50 +14,38 @@ use Rattle.records.proofs.read.read_request.Needs as need
 pub returns-in-1 : need.returns-in-1
 returns-in-1 c =
     let xs = c .args .input .now in
-    let k : getD xs 0 0 ≡ 1 = search needs in
-    let n : 1 ≤ length xs = search needs in
-    let p = record-read readRequest requestOf requestBytes (λ _ _. refl) 1 0 Begin xs _ [] k n (take-rest xs 1) refl refl refl in
+    let p = record-read readRequest requestOf requestBytes (λ _ _. refl) 1 0 Begin xs _ [] (search needs) (search needs) (take-rest xs 1) refl refl refl in
     record { reads = p .0; writes-back = p .1 }
 
 pub returns-in-2 : need.returns-in-2
 returns-in-2 c =
     let xs = c .args .input .now in
-    let k : getD xs 0 0 ≡ 2 = search needs in
-    let n : 5 ≤ length xs = search needs in
-    let p = two-numbers readRequest requestOf requestBytes (λ _ _. refl) 2 Read (λ _. refl) (λ _ _. refl) xs _ (c .from-be-bytes-t-in-2 .result) (c .from-be-bytes-item-in-2 .result) (c .typed .input) k n (take-rest xs 5) (search needs) (search needs) in
+    let p = two-numbers readRequest requestOf requestBytes (λ _ _. refl) 2 Read (λ _. refl) (λ _ _. refl) xs _ (c .from-be-bytes-t-in-2 .result) (c .from-be-bytes-item-in-2 .result) (c .typed .input) (search needs) (search needs) (take-rest xs 5) (search needs) (search needs) in
     record { reads = p .0; writes-back = p .1 }
 
 pub returns-in-3 : need.returns-in-3
 returns-in-3 c =
     let xs = c .args .input .now in
-    let k : getD xs 0 0 ≡ 3 = search needs in
-    let n : 9 ≤ length xs = search needs in
     let z = c .from-be-bytes-value .result in
     let f : SFits w32 z = search needs in
     let v : z ≡ toZ w32 (bigEndian 4 xs 5) = search needs in
-    let p = numbers-and-value readRequest requestOf requestBytes (λ _ _. refl) 3 Write (λ _. refl) (λ _ _ _. refl) xs _ (c .from-be-bytes-t .result) (c .from-be-bytes-item .result) _ (c .typed .input) k n (take-rest xs 9) (search needs) (search needs) (toZ-ofZ w32 z f ∙ v) in
+    let p = numbers-and-value readRequest requestOf requestBytes (λ _ _. refl) 3 Write (λ _. refl) (λ _ _ _. refl) xs _ (c .from-be-bytes-t .result) (c .from-be-bytes-item .result) _ (c .typed .input) (search needs) (search needs) (take-rest xs 9) (search needs) (search needs) (toZ-ofZ w32 z f ∙ v) in
     record { reads = p .0; writes-back = p .1 }
 
 pub returns-in-4 : need.returns-in-4
 returns-in-4 c =
     let xs = c .args .input .now in
-    let k : getD xs 0 0 ≡ 4 = search needs in
-    let n : 3 ≤ length xs = search needs in
-    let p = one-number readRequest requestOf requestBytes (λ _ _. refl) 4 Commit (λ _. refl) (λ _. refl) xs _ (c .from-be-bytes-in-4 .result) (c .typed .input) k n (take-rest xs 3) (search needs) in
+    let p = one-number readRequest requestOf requestBytes (λ _ _. refl) 4 Commit (λ _. refl) (λ _. refl) xs _ (c .from-be-bytes-in-4 .result) (c .typed .input) (search needs) (search needs) (take-rest xs 3) (search needs) in
     record { reads = p .0; writes-back = p .1 }
 
 pub returns-in-5 : need.returns-in-5
 returns-in-5 c =
     let xs = c .args .input .now in
-    let k : getD xs 0 0 ≡ 5 = search needs in
-    let n : 3 ≤ length xs = search needs in
-    let p = one-number readRequest requestOf requestBytes (λ _ _. refl) 5 Abort (λ _. refl) (λ _. refl) xs _ (c .from-be-bytes-in-5 .result) (c .typed .input) k n (take-rest xs 3) (search needs) in
+    let p = one-number readRequest requestOf requestBytes (λ _ _. refl) 5 Abort (λ _. refl) (λ _. refl) xs _ (c .from-be-bytes-in-5 .result) (c .typed .input) (search needs) (search needs) (take-rest xs 3) (search needs) in
     record { reads = p .0; writes-back = p .1 }
 
 pub returns-in-6 : need.returns-in-6
 returns-in-6 c =
     let xs = c .args .input .now in
-    let k : getD xs 0 0 ≡ 6 = search needs in
-    let n : 3 ≤ length xs = search needs in
-    let p = one-number readRequest requestOf requestBytes (λ _ _. refl) 6 Retry (λ _. refl) (λ _. refl) xs _ (c .from-be-bytes .result) (c .typed .input) k n (take-rest xs 3) (search needs) in
+    let p = one-number readRequest requestOf requestBytes (λ _ _. refl) 6 Retry (λ _. refl) (λ _. refl) xs _ (c .from-be-bytes .result) (c .typed .input) (search needs) (search needs) (take-rest xs 3) (search needs) in
     record { reads = p .0; writes-back = p .1 }
