@@ -1,4 +1,3 @@
 mod Widths
 mod Reading
-mod AnswerShapes
 mod Cut

@@ -25,6 +25,9 @@ body-length k =
     (cond (ltb k 17) 0
     (cond (ltb 26 k) 0 2)))))))
 
+abbrev pub state-of : ℕ → Activity
+state-of byte = cond (eqb byte 0) Active Waiting
+
 abbrev pub state-byte : Activity → ℕ
 state-byte Active = 0
 state-byte Waiting = 1
@@ -34,7 +37,7 @@ abbrev pub stillOpen : ℕ → List ℕ → Reading Answer
 stillOpen state bs =
     cond (ltb (length bs) 4) (Err cut-short)
     (cond (ltb 1 state) (Err unknown-kind)
-    (Ok (StillOpen (bigEndian 2 bs 1) (cond (eqb state 0) Active Waiting), drop 4 bs)))
+    (Ok (StillOpen (bigEndian 2 bs 1) (state-of state), drop 4 bs)))
 
 -- the answer that begins with the kind k
 abbrev pub answerOf : ℕ → List ℕ → Reading Answer

@@ -20,7 +20,7 @@ returns-in-1 c =
 pub returns-in-2 : need.returns-in-2
 returns-in-2 c =
     let xs = c .args .input .now in
-    let p = two-numbers readRequest requestOf requestBytes (λ _ _. refl) 2 Read (λ _. refl) (λ _ _. refl) xs _ (c .from-be-bytes-t-in-2 .result) (c .from-be-bytes-item-in-2 .result) (c .typed .input) (search needs) (search needs) (take-rest xs 5) (search needs) (search needs) in
+    let p = two-numbers readRequest requestOf requestBytes (λ _ _. refl) 2 Read (λ _. refl) (λ _ _. refl) xs _ (c .pair-t-in-2 .result) (c .pair-item-in-2 .result) (c .typed .input) (search needs) (search needs) (take-rest xs 5) (search needs) (search needs) in
     record { reads = p .0; writes-back = p .1 }
 
 pub returns-in-3 : need.returns-in-3
@@ -29,23 +29,23 @@ returns-in-3 c =
     let z = c .from-be-bytes-value .result in
     let f : SFits w32 z = search needs in
     let v : z ≡ toZ w32 (bigEndian 4 xs 5) = search needs in
-    let p = numbers-and-value readRequest requestOf requestBytes (λ _ _. refl) 3 Write (λ _. refl) (λ _ _ _. refl) xs _ (c .from-be-bytes-t .result) (c .from-be-bytes-item .result) _ (c .typed .input) (search needs) (search needs) (take-rest xs 9) (search needs) (search needs) (toZ-ofZ w32 z f ∙ v) in
+    let p = numbers-and-value readRequest requestOf requestBytes (λ _ _. refl) 3 Write (λ _. refl) (λ _ _ _. refl) xs _ (c .pair-t .result) (c .pair-item .result) _ (c .typed .input) (search needs) (search needs) (take-rest xs 9) (search needs) (search needs) (toZ-ofZ w32 z f ∙ v) in
     record { reads = p .0; writes-back = p .1 }
 
 pub returns-in-4 : need.returns-in-4
 returns-in-4 c =
     let xs = c .args .input .now in
-    let p = one-number readRequest requestOf requestBytes (λ _ _. refl) 4 Commit (λ _. refl) (λ _. refl) xs _ (c .from-be-bytes-in-4 .result) (c .typed .input) (search needs) (search needs) (take-rest xs 3) (search needs) in
+    let p = one-number readRequest requestOf requestBytes (λ _ _. refl) 4 Commit (λ _. refl) (λ _. refl) xs _ (c .pair-in-4 .result) (c .typed .input) (search needs) (search needs) (take-rest xs 3) (search needs) in
     record { reads = p .0; writes-back = p .1 }
 
 pub returns-in-5 : need.returns-in-5
 returns-in-5 c =
     let xs = c .args .input .now in
-    let p = one-number readRequest requestOf requestBytes (λ _ _. refl) 5 Abort (λ _. refl) (λ _. refl) xs _ (c .from-be-bytes-in-5 .result) (c .typed .input) (search needs) (search needs) (take-rest xs 3) (search needs) in
+    let p = one-number readRequest requestOf requestBytes (λ _ _. refl) 5 Abort (λ _. refl) (λ _. refl) xs _ (c .pair-in-5 .result) (c .typed .input) (search needs) (search needs) (take-rest xs 3) (search needs) in
     record { reads = p .0; writes-back = p .1 }
 
 pub returns-in-6 : need.returns-in-6
 returns-in-6 c =
     let xs = c .args .input .now in
-    let p = one-number readRequest requestOf requestBytes (λ _ _. refl) 6 Retry (λ _. refl) (λ _. refl) xs _ (c .from-be-bytes .result) (c .typed .input) (search needs) (search needs) (take-rest xs 3) (search needs) in
+    let p = one-number readRequest requestOf requestBytes (λ _ _. refl) 6 Retry (λ _. refl) (λ _. refl) xs _ (c .pair .result) (c .typed .input) (search needs) (search needs) (take-rest xs 3) (search needs) in
     record { reads = p .0; writes-back = p .1 }
