@@ -1,4 +1,5 @@
 // What is found in a request file.
+use records::refusal::Reason;
 use records::refusal::ReasonDisplay;
 use records::refusal::Refusal;
 use records::refusal::RefusalDebug;
@@ -35,13 +36,13 @@ pub impl fmt::Display for Ending as EndingDisplay {
     fn fmt<W: fmt::Write>(&self, f: &mut fmt::Formatter<W>) -> fmt::Result {
         match *self {
             Ending::Whole => f.write_str("the file is whole"),
-            Ending::Refused { refusal, place } => {
-                let reason = refusal.reason;
-                write!(
+            Ending::Refused { refusal, place } => match refusal.reason {
+                Reason::InputTooLong => f.write_str("too long: nothing of the file is read"),
+                reason => write!(
                     f,
                     "{reason} at place {place}: nothing from there on is read"
-                )
-            }
+                ),
+            },
         }
     }
 }
