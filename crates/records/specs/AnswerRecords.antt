@@ -16,14 +16,16 @@ use Rattle.records.specs.declared.answer.Answer.the-variants.{Opened, Value, W
 -- how long the body of an answer is
 abbrev pub body-length : ℕ → ℕ
 body-length k =
-    cond (eqb k 18) 8
-    (cond (eqb k 24) 6
-    (cond (eqb k 26) 6
+    cond (eqb k 17) 2
+    (cond (eqb k 18) 8
     (cond (eqb k 19) 4
+    (cond (eqb k 20) 2
+    (cond (eqb k 21) 2
     (cond (eqb k 22) 4
+    (cond (eqb k 23) 2
+    (cond (eqb k 24) 6
     (cond (eqb k 25) 3
-    (cond (ltb k 17) 0
-    (cond (ltb 26 k) 0 2)))))))
+    (cond (eqb k 26) 6 0)))))))))
 
 abbrev pub state-of : ℕ → Activity
 state-of byte = cond (eqb byte 0) Active Waiting

@@ -2,7 +2,7 @@
 use mathlib.Core.Path.{_≡_}
 use mathlib.Core.List.{List, [], _∷_, _++_}
 use mathlib.Core.Bool.{cond}
-use Prim.Native.Nat.{ℕ, zero, suc, _+_, _*_, _/_, _%_, _^_, _<_}
+use Prim.Native.Nat.{ℕ, zero, suc, _+_, _*_, _/_, _%_, _^_, _≤_, _<_}
 use lib.Dec.{ltb}
 use lib.ListN.{length, getD, drop}
 use Rattle.std.specs.declared.result.Result.{Result}
@@ -39,6 +39,6 @@ abbrev pub whole : {R : Type 0} → ℕ → R → List ℕ → Reading R
 whole n q bs = cond (ltb (length bs) n) (Err cut-short) (Ok (q, drop n bs))
 
 -- a writer's answer, and the buffer before and after: the record's bytes, then what stood there, or nothing changed
-abbrev pub Placed : List ℕ → List ℕ → List ℕ → Result ℕ Refusal → Type 0
-Placed rec was is (Ok n) = (n ≡ length rec) × (is ≡ rec ++ drop (length rec) was)
-Placed rec was is (Err e) = (length was < length rec) × (e ≡ too-short) × (is ≡ was)
+abbrev pub AtStart : List ℕ → List ℕ → List ℕ → Result ℕ Refusal → Type 0
+AtStart rec was is (Ok n) = (length rec ≤ length was) × (n ≡ length rec) × (is ≡ rec ++ drop (length rec) was)
+AtStart rec was is (Err e) = (length was < length rec) × (e ≡ too-short) × (is ≡ was)

@@ -5,7 +5,7 @@ ghost use Prim.Native.Nat.{ℕ};
 ghost use mir.Syntax.{w32};
 ghost use mir.Val.{ofZ};
 ghost use Rattle.std.specs.declared.result.Result.the-variants.{Ok};
-ghost use Rattle.records.specs.Layout.{bytes, Placed};
+ghost use Rattle.records.specs.Layout.{bytes, AtStart};
 ghost use Rattle.records.specs.AnswerRecords.{answerBytes, readAnswer, state-byte};
 ghost use Rattle.records.specs.RequestRecords.{requestBytes, readRequest};
 use crate::answer::Activity;
@@ -17,7 +17,7 @@ use crate::request::Request;
 
 /// Puts the record at the start of `out` and says how long it is.
 pub fn write_request(request: Request, out: &mut [u8]) -> Result<usize, Refusal>
-    ensures written { λ r. ⌜ Placed (requestBytes request) (now (out .entry)) (now (out .exit)) r ⌝ }
+    ensures written { λ r. ⌜ AtStart (requestBytes request) (now (out .entry)) (now (out .exit)) r ⌝ }
     ensures reads_back { λ _. ⌜ ((tail : List ℕ) → readRequest (requestBytes request ++ tail) ≡ Ok (request, tail)) ⌝ }
 {
     match request {
@@ -32,7 +32,7 @@ pub fn write_request(request: Request, out: &mut [u8]) -> Result<usize, Refusal>
 
 /// Puts the record at the start of `out` and says how long it is.
 pub fn write_answer(answer: Answer, out: &mut [u8]) -> Result<usize, Refusal>
-    ensures written { λ r. ⌜ Placed (answerBytes answer) (now (out .entry)) (now (out .exit)) r ⌝ }
+    ensures written { λ r. ⌜ AtStart (answerBytes answer) (now (out .entry)) (now (out .exit)) r ⌝ }
     ensures reads_back { λ _. ⌜ ((tail : List ℕ) → readAnswer (answerBytes answer ++ tail) ≡ Ok (answer, tail)) ⌝ }
 {
     match answer {
@@ -74,7 +74,7 @@ fn state_byte(state: Activity) -> u8
 
 // A kind and one number.
 fn put_one(out: &mut [u8], kind: u8, a: u16) -> Result<usize, Refusal>
-    ensures { λ r. ⌜ Placed (kind ∷ bytes 2 a) (now (out .entry)) (now (out .exit)) r ⌝ }
+    ensures { λ r. ⌜ AtStart (kind ∷ bytes 2 a) (now (out .entry)) (now (out .exit)) r ⌝ }
 {
     let [a1, a0] = a.to_be_bytes();
     put(out, &[kind, a1, a0])
@@ -82,7 +82,7 @@ fn put_one(out: &mut [u8], kind: u8, a: u16) -> Result<usize, Refusal>
 
 // A kind and two numbers.
 fn put_two(out: &mut [u8], kind: u8, a: u16, b: u16) -> Result<usize, Refusal>
-    ensures { λ r. ⌜ Placed (kind ∷ (bytes 2 a ++ bytes 2 b)) (now (out .entry)) (now (out .exit)) r ⌝ }
+    ensures { λ r. ⌜ AtStart (kind ∷ (bytes 2 a ++ bytes 2 b)) (now (out .entry)) (now (out .exit)) r ⌝ }
 {
     let [a1, a0] = a.to_be_bytes();
     let [b1, b0] = b.to_be_bytes();
@@ -91,7 +91,7 @@ fn put_two(out: &mut [u8], kind: u8, a: u16, b: u16) -> Result<usize, Refusal>
 
 // A kind, a transaction, an item and a value.
 fn put_value(out: &mut [u8], kind: u8, t: u16, item: u16, value: i32) -> Result<usize, Refusal>
-    ensures { λ r. ⌜ Placed (kind ∷ (bytes 2 t ++ (bytes 2 item ++ bytes 4 (ofZ w32 value)))) (now (out .entry)) (now (out .exit)) r ⌝ }
+    ensures { λ r. ⌜ AtStart (kind ∷ (bytes 2 t ++ (bytes 2 item ++ bytes 4 (ofZ w32 value)))) (now (out .entry)) (now (out .exit)) r ⌝ }
 {
     let [t1, t0] = t.to_be_bytes();
     let [i1, i0] = item.to_be_bytes();
@@ -100,7 +100,7 @@ fn put_value(out: &mut [u8], kind: u8, t: u16, item: u16, value: i32) -> Result<
 }
 
 fn put(out: &mut [u8], from: &[u8]) -> Result<usize, Refusal>
-    ensures { λ r. ⌜ Placed (now (from .entry)) (now (out .entry)) (now (out .exit)) r ⌝ }
+    ensures { λ r. ⌜ AtStart (now (from .entry)) (now (out .entry)) (now (out .exit)) r ⌝ }
 {
     let n = from.len();
     if out.len() < n {
