@@ -1,1 +1,4 @@
+mod Kept
+mod Landing
 mod Scans
+mod Workspace

@@ -1,26 +1,17 @@
 -- One step of a scan over the entries.
-use lib.Dec.{eqb}
 use lib.IntN.{ℤ}
 use lib.ListN.{drop, getD, length, set, take}
-use mathlib.Core.Bool.{Bool, _&&_, cond, false, true}
+use mathlib.Core.Bool.{Bool, cond, false, true}
 use mathlib.Core.List.{List, [], _∷_}
-use mathlib.Core.Path.{_≡_, _∙_, ap, refl, sym}
+use mathlib.Core.Path.{_≡_, _∙_, ap, refl}
 use native.Mathlib.Omega.{arith}
-use Prim.Native.Nat.{ℕ, _+_, _<_, _≤_, suc, zero}
+use Prim.Native.Nat.{ℕ, _+_, _<_, suc, zero}
 use Rattle.std.proofs.shelf.Lists.{at-drop-more}
-use Rattle.std.proofs.shelf.Tests.{and-parts, cond-false, cond-true, ltb-true}
-use Rattle.std.specs.declared.option.Option.{Option}
-use Rattle.std.specs.declared.option.Option.the-variants.{None, Some}
-use Rattle.std.specs.Options.{mapped}
+use Rattle.std.proofs.shelf.Tests.{and-parts, ltb-true}
+use Rattle.std.specs.declared.option.Option.the-variants.{Some}
 use Rattle.store.specs.declared.table.Entry.{Entry}
-use Rattle.store.specs.Entries.{blank, bounded, first, found, is-pair, landed, owned, value-of}
-
-module _ (q : Entry → Bool) (e : Entry) (es : List Entry) where
-  pub first-here : q e ≡ true → first q (e ∷ es) ≡ Some e
-  first-here h = cond-true (q e) (Some e) (first q es) h
-
-  pub first-past : q e ≡ false → first q (e ∷ es) ≡ first q es
-  first-past h = cond-false (q e) (Some e) (first q es) h
+use Rattle.store.specs.Entries.{blank, bounded, entry, first, landed, owned, revalued}
+use Rattle.store.specs.Finding.{first-here, first-past}
 
 module _ (q : Entry → Bool) (list : List Entry) (k : ℕ) (lt : k < length list) where
   pub first-at : q (getD list k blank) ≡ true → first q (drop k list) ≡ Some (getD list k blank)
@@ -39,8 +30,8 @@ bounded-at n [] k h lt = absurd (omega arith)
 bounded-at n (e ∷ es) zero h lt = let p = and-parts _ _ (and-parts _ _ h .0) in (ltb-true _ _ (p .0), ltb-true _ _ (p .1))
 bounded-at n (e ∷ es) (suc k) h lt = bounded-at n es k (and-parts _ _ h .1) (omega arith)
 
-pub take-set-below : (n : ℕ) (es : List Entry) (k : ℕ) (e : Entry) → k < n → take n (set es k e) ≡ set (take n es) k e
-take-set-below zero es k e lt = absurd (omega arith)
-take-set-below (suc n) [] k e lt = refl
-take-set-below (suc n) (f ∷ es) zero e lt = refl
-take-set-below (suc n) (f ∷ es) (suc k) e lt = ap (λ l. f ∷ l) (take-set-below n es k e (omega arith))
+pub set-value : (n : ℕ) (es : List Entry) (k : ℕ) (v : ℤ) → k < n → take n (set es k (entry (getD es k blank .owner) (getD es k blank .item) v)) ≡ revalued (take n es) k v
+set-value zero es k v lt = absurd (omega arith)
+set-value (suc n) [] k v lt = refl
+set-value (suc n) (e ∷ es) zero v lt = refl
+set-value (suc n) (e ∷ es) (suc k) v lt = ap (λ l. e ∷ l) (set-value n es k v (omega arith))

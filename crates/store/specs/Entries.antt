@@ -4,7 +4,7 @@ use lib.IntN.{ℤ, pos}
 use lib.ListN.{getD, length, set, take}
 use mathlib.Core.Bool.{Bool, _&&_, cond, not, true}
 use mathlib.Core.List.{List, [], _∷_}
-use Prim.Native.Nat.{ℕ, min}
+use Prim.Native.Nat.{ℕ, min, suc, zero}
 use Rattle.std.specs.declared.option.Option.{Option}
 use Rattle.std.specs.declared.option.Option.the-variants.{None, Some}
 use Rattle.std.specs.Options.{mapped}
@@ -22,6 +22,12 @@ entry t i v = record { owner = t; item = i; value = v }
 
 abbrev pub entries : Table → List Entry
 entries b = take (b .len) (b .at)
+
+-- the entries with another value at one place
+abbrev pub revalued : List Entry → ℕ → ℤ → List Entry
+revalued [] k v = []
+revalued (e ∷ es) zero v = entry (e .owner) (e .item) v ∷ es
+revalued (e ∷ es) (suc k) v = e ∷ revalued es k v
 
 abbrev pub owned : ℕ → Entry → Bool
 owned t e = eqb (e .owner) t

@@ -37,14 +37,13 @@ abbrev pub laid : (ℕ → Option ℤ) → List ℤ → List ℤ
 laid row [] = []
 laid row (c ∷ cs) = valueOr (row 0) c ∷ laid (λ i. row (suc i)) cs
 
--- Counts and searches over the numbers below n. They stay shut, since some n are large.
-unfoldable pub count-below : (ℕ → Bool) → ℕ → ℕ
-count-below q zero = 0
-count-below q (suc n) = cond (q n) 1 0 + count-below q n
-
+-- Sums and searches over the numbers below n. They stay shut, since some n are large.
 unfoldable pub sum-below : (ℕ → ℕ) → ℕ → ℕ
 sum-below f zero = 0
 sum-below f (suc n) = f n + sum-below f n
+
+abbrev pub count-below : (ℕ → Bool) → ℕ → ℕ
+count-below q n = sum-below (λ i. cond (q i) 1 0) n
 
 unfoldable pub any-below : (ℕ → Bool) → ℕ → Bool
 any-below q zero = false

@@ -1,3 +1,6 @@
 //! Value stores: committed values and pending writes, behind one trait.
-mod table;
+pub mod in_place;
+pub mod private;
+
 pub mod store;
+mod table;

@@ -7,7 +7,9 @@ ghost use mathlib.Core.Path.{_≡_};
 ghost use Prim.Native.Nat.{ℕ};
 ghost use Rattle.std.specs.declared.option.Option.{Option};
 ghost use Rattle.std.specs.Results.{isOk};
-ghost use Rattle.store.specs.Meaning.{Place, Sound, answered, held-count, laid, looked, refused, without, written};
+ghost use Rattle.store.specs.Meaning.{Place, Sound, answered, held-count, laid, looked, of-store, refused, without, written};
+use records::refusal::Layer;
+use records::refusal::Reason;
 use records::refusal::Refusal;
 
 /// A store of values. Its items are 0 to its size - 1. It means a committed value for each item, and for a pair of a
@@ -78,4 +80,10 @@ pub trait Store {
         ensures committed { λ _. ⌜ committed (now (self .exit)) ≡ committed (now (self .entry)) ⌝ }
         ensures pending { λ _. ⌜ pending (now (self .exit)) ≡ without (pending (now (self .entry))) t ⌝ }
         ensures place { λ _. ⌜ place (now (self .exit)) ≡ place (now (self .entry)) ⌝ };
+}
+
+pub(crate) fn refusal(reason: Reason) -> Refusal
+    ensures { λ r. ⌜ r ≡ of-store reason ⌝ }
+{
+    Refusal { layer: Layer::Store, reason }
 }

@@ -1,6 +1,6 @@
 // The entries that a store keeps beside its slice, in a fixed array.
 ghost use lib.IntN.{ℤ};
-ghost use lib.ListN.{getD, length, set};
+ghost use lib.ListN.{getD, length};
 ghost use mathlib.Core.Bool.{true};
 ghost use mathlib.Core.List.{[], _++_, _∷_};
 ghost use mathlib.Core.Path.{_≡_};
@@ -8,7 +8,7 @@ ghost use Prim.Native.Nat.{ℕ, _+_, _<_, _≤_};
 ghost use Rattle.std.specs.declared.option.Option.the-variants.{None, Some};
 ghost use Rattle.std.specs.Options.{Cases as BySome};
 ghost use Rattle.std.specs.shelf.Lists.{kept-by};
-ghost use Rattle.store.specs.Entries.{blank, bounded, count-of, entries, entry, first, found, is-on, is-pair, landed, others};
+ghost use Rattle.store.specs.Entries.{blank, bounded, count-of, entries, entry, first, found, is-on, is-pair, landed, others, revalued};
 
 /// A value that is kept for a transaction and an item.
 #[derive(Clone, Copy)]
@@ -52,13 +52,13 @@ impl Table {
         self.len += 1;
     }
 
-    pub fn replace(&mut self, k: usize, owner: u16, item: u16, value: i32)
+    pub fn replace(&mut self, k: usize, value: i32)
         requires within { ⌜ k < now self .len ⌝ }
         requires fits { ⌜ now self .len ≤ 512 ⌝ }
-        ensures entries { λ _. ⌜ entries (now (self .exit)) ≡ set (entries (now (self .entry))) k (entry owner item value) ⌝ }
+        ensures entries { λ _. ⌜ entries (now (self .exit)) ≡ revalued (entries (now (self .entry))) k value ⌝ }
         ensures len { λ _. ⌜ now (self .exit) .len ≡ now (self .entry) .len ⌝ }
     {
-        self.at[k] = Entry { owner, item, value };
+        self.at[k].value = value;
     }
 
     /// Takes the transaction's entries out, and leaves the others in their order.
