@@ -1,4 +1,6 @@
+mod Images
 mod Kept
 mod Landing
+mod Refusals
 mod Scans
 mod Workspace
