@@ -1,6 +1,9 @@
-mod Images
-mod Kept
-mod Landing
-mod Refusals
-mod Scans
-mod Workspace
+pub mod Images
+pub mod Kept
+pub mod Landing
+pub mod Openings
+pub mod Overlaid
+pub mod Puts
+pub mod Refusals
+pub mod Scans
+pub mod Workspace

@@ -102,10 +102,12 @@ pub impl Store for InPlace<'_> as InPlaceStore {
         if self.size() <= item as usize {
             return Err(refusal(Reason::NoSuchItem));
         }
-        match on(self.images.list(), item) {
-            Some(image) if image.owner != t => Ok(image.value),
-            _ => Ok(self.values[item as usize]),
+        if let Some(image) = on(self.images.list(), item) {
+            if image.owner != t {
+                return Ok(image.value);
+            }
         }
+        Ok(self.values[item as usize])
     }
 
     fn put(&mut self, t: u16, item: u16, value: i32) -> Result<(), Refusal> {

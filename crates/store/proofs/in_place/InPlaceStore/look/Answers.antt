@@ -1,0 +1,46 @@
+use borrow.Author.Needs.{needs}
+use lib.IntN.{ℤ, pos}
+use lib.ListN.{getD}
+use mathlib.Core.Path.{_≡_, _∙_, ap, sym}
+use mir.Syntax.{w32}
+use mir.Val.{SFits}
+use native.Mathlib.Omega.{arith}
+use Prim.Native.Nat.{_<_}
+use Rattle.std.proofs.shelf.Signed.{toZ-ofZ}
+use Rattle.std.specs.declared.option.Option.the-variants.{None, Some}
+use Rattle.std.specs.declared.result.Result.the-variants.{Ok}
+use Rattle.store.proofs.Images.{length-behind}
+use Rattle.store.proofs.in_place.InPlaceStore.look.Needs as need
+use Rattle.store.proofs.in_place.InPlaceStore.look.Needs.{in-Some·else-image-t, in-rest}
+use Rattle.store.proofs.Puts.{look-none, look-other, look-own}
+use Rattle.store.specs.Entries.{entries, first, is-on, size-of}
+use Rattle.store.specs.Soundness.{few-entries}
+
+pub index-self-item : need.index-self-item
+index-self-item c = let s = c .args .self .now in omega (arith, length-behind (entries (s .images)) (s .values .now))
+
+pub returns-then-image-t : need.returns-then-image-t
+returns-then-image-t c =
+    let s = c .args .self .now in
+    let es = entries (s .images) in
+    let i = c .args .item in
+    let in′ : i < size-of (s .values .now) = omega (arith, length-behind es (s .values .now)) in
+    let has : first (is-on i) es ≡ Some (c .in-Some .image) = sym (ap (first (is-on i)) (c .list .ensures .value)) ∙ sym (c .on .ensures) ∙ c .in-Some .is in
+    let fits : SFits w32 (c .in-Some .image .value) = search needs in
+    ap Ok (toZ-ofZ w32 (c .in-Some .image .value) fits)
+    ∙ sym (look-other es (s .values .now) (c .args .t) i (few-entries (s .images) (s .fits)) (s .bounded) (s .apart) in′ (c .in-Some .image) has (c .if-image-t .taken))
+
+pub returns : need.returns
+returns c =
+    let s = c .args .self .now in
+    let es = entries (s .images) in
+    let i = c .args .item in
+    let in′ : i < size-of (s .values .now) = omega (arith, length-behind es (s .values .now)) in
+    let on : c .on .result ≡ first (is-on i) es = c .on .ensures ∙ ap (first (is-on i)) (c .list .ensures .value) in
+    let x = getD (s .values .now) i (pos 0) in
+    let fits : SFits w32 x = search needs in
+    ap Ok (toZ-ofZ w32 x fits)
+    ∙ sym (elim (c .match-on .came) [
+        in-Some·else-image-t w ↦ look-own es (s .values .now) (c .args .t) i (few-entries (s .images) (s .fits)) (s .bounded) (s .apart) in′ (w .in-Some .image) (sym on ∙ w .in-Some .is) (w .if-image-t .left)
+      | in-rest w ↦ look-none es (s .values .now) (c .args .t) i (few-entries (s .images) (s .fits)) (s .bounded) (s .apart) in′ (sym on ∙ w .in-rest .is)
+      ])
