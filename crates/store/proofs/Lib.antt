@@ -5,5 +5,6 @@ pub mod Openings
 pub mod Overlaid
 pub mod Puts
 pub mod Refusals
+pub mod Replies
 pub mod Scans
 pub mod Workspace

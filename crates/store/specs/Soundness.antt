@@ -40,14 +40,20 @@ module _ (es : List Entry) (vs : List ℤ) (few : length es ≤ 512) (low : boun
   pub length-items : length (items vs) ≡ size-of vs
   length-items = length-take 1024 vs
 
+  pub held-beside : apart same-pair es ≡ true → held-count (found es) (length (items vs)) ≡ length es
+  held-beside ap′ = rw length-items (held-found (size-of vs) es ap′ low)
+
+  pub row-beside : apart same-pair es ≡ true → (t : ℕ) → row-count (found es) t (length (items vs)) ≡ count-of t es
+  row-beside ap′ t = rw length-items (row-found (size-of vs) es t ap′ low)
+
   pub private-sound : apart same-pair es ≡ true → ((t : ℕ) → count-of t es ≤ 64) → Sound true 512 64 (items vs) (found es)
   private-sound ap′ sh =
       record {
         narrow = omega (arith, length-items);
         within = λ t i h. rw length-items (first-bounded (size-of vs) es t i low (sym (isSome-mapped value-of (first (is-pair t i) es)) ∙ h));
         single = λ no′. absurd (false≢true (sym no′));
-        fits = rw length-items (omega (arith, held-found (size-of vs) es ap′ low));
-        shares = λ t. rw length-items (omega (arith, row-found (size-of vs) es t ap′ low, sh t));
+        fits = omega (arith, held-beside ap′);
+        shares = λ t. omega (arith, row-beside ap′ t, sh t);
       }
 
   pub length-behind : length (committed-behind es vs) ≡ size-of vs

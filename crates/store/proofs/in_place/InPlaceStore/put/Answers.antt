@@ -6,7 +6,7 @@ use mathlib.Core.Bool.{false, true}
 use mathlib.Core.List.{List, [], _++_, _∷_}
 use mathlib.Core.Path.{_≡_, _∙_, ap, refl, sym}
 use mir.Syntax.{w32}
-use mir.Val.{SFits}
+use mir.Val.{SFits, ofZ, toZ}
 use native.Mathlib.Omega.{arith}
 use borrow.Author.Needs.{needs}
 use Prim.Native.Nat.{ℕ, _<_}
@@ -79,4 +79,38 @@ index-self-i-2 c =
     omega (arith, length-behind (entries (s .images)) (s .values .now), ap (λ (r : RefT (List ℤ)). length (r .now)) same)
 
 pub returns : need.returns
-returns c = ?
+returns c =
+    let s = c .args .self .now in
+    let m = c .match-on .self in
+    let es = entries (s .images) in
+    let vs = s .values .now in
+    let t = c .args .t in
+    let i = c .args .item in
+    let v = c .args .value in
+    let few = few-entries (s .images) (s .fits) in
+    let in′ : i < size-of vs = omega (arith, length-behind es vs) in
+    let on : c .on .result ≡ first (is-on i) es = c .on .ensures ∙ ap (first (is-on i)) (c .list .ensures .value) in
+    let x = getD vs i (pos 0) in
+    let way : (fs : List Entry) × (entries (m .images) ≡ fs) × (m .values ≡ s .values) × (refused false 512 512 (committed-behind es vs) (pending-in es vs) t i ≡ None) × (committed-behind fs (set vs i v) ≡ committed-behind es vs) × (pending-in fs (set vs i v) ≡ written (pending-in es vs) t i v) =
+      elim (c .match-on .came) [
+        in-Some·else-image-t w ↦
+          let has : first (is-on i) es ≡ Some (w .in-Some .image) = sym on ∙ w .in-Some .is in
+          let own = eq-eqb (w .in-Some .image .owner) t (w .if-image-t .left) in
+          (es, ap (λ (n : InPlace). entries (n .images)) (w .self-is), ap (λ (n : InPlace). n .values) (w .self-is), put-again es vs t i few (s .bounded) (s .apart) in′ (w .in-Some .image) has (w .if-image-t .left), again-behind es vs t i v in′ (w .in-Some .image) has own (s .apart), again-pending es vs t i v in′ (w .in-Some .image) has own (s .apart))
+      | in-None·else-self-eq-ROOM w ↦
+          let none : first (is-on i) es ≡ None = sym on ∙ w .in-None .is in
+          let long : length es ≡ s .images .len = sym (ap length (c .list .ensures .value)) ∙ c .list .ensures .long in
+          let room : length es < 512 = omega (arith, few, w .if-self-eq-ROOM .left) in
+          let fits : SFits w32 x = search needs in
+          (es ++ entry t i x ∷ [], ap (λ (n : InPlace). entries (n .images)) (w .self-is) ∙ w .push .ensures .entries ∙ ap (λ (y : ℤ). es ++ entry t i y ∷ []) (toZ-ofZ w32 x fits), ap (λ (n : InPlace). n .values) (w .self-is), put-new es vs t i few (s .bounded) (s .apart) in′ none room, first-behind es vs t i v in′ none, first-pending es vs t i v in′ none)
+      ] in
+    let fs = way .0 in
+    let slice : set (m .values .now) i (toZ w32 (ofZ w32 v)) ≡ set vs i v = ap (λ (r : RefT (List ℤ)). set (r .now) i (toZ w32 (ofZ w32 v))) (way .2) ∙ ap (set vs i) (toZ-ofZ w32 v (c .fits .value)) in
+    let place : RefT (List ℤ) → List ℤ → Place = λ r l. record { home = name r ∷ []; outside = rest l } in
+    let outside : List ℤ → Place = λ l. record { home = name (s .values) ∷ []; outside = l } in
+    record {
+      answer = sym (ap answered (way .3));
+      committed = ap (λ (l : List Entry). committed-behind l (set (m .values .now) i (toZ w32 (ofZ w32 v)))) (way .1) ∙ ap (committed-behind fs) slice ∙ way .4;
+      pending = ap (λ (l : List Entry). pending-in l (set (m .values .now) i (toZ w32 (ofZ w32 v)))) (way .1) ∙ ap (pending-in fs) slice ∙ way .5;
+      place = ap (λ (r : RefT (List ℤ)). place r (set (m .values .now) i (toZ w32 (ofZ w32 v)))) (way .2) ∙ ap (place (s .values)) slice ∙ ap outside (drop-set-lt 1024 vs i v (omega arith));
+    }
