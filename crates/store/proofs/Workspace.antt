@@ -13,9 +13,9 @@ use Rattle.std.specs.declared.option.Option.{Option}
 use Rattle.std.specs.declared.option.Option.the-variants.{None, Some}
 use Rattle.std.specs.Options.{mapped}
 use Rattle.std.specs.shelf.Lists.{kept-by}
-use Rattle.store.proofs.Kept.{eqb-flip, first-pushed, or-new, pair-kept}
+use Rattle.store.proofs.Kept.{count-push, eqb-flip, first-pushed, or-new, pair-kept}
 use Rattle.store.specs.declared.table.Entry.{Entry}
-use Rattle.store.specs.Entries.{apart, blank, clear-of, entry, first, found, is-on, is-pair, others, owned, revalued, same-pair, value-of}
+use Rattle.store.specs.Entries.{apart, blank, clear-of, count-of, entry, first, found, is-on, is-pair, others, owned, revalued, same-pair, value-of}
 use Rattle.store.specs.Finding.{first-here, first-past}
 use Rattle.store.specs.Meaning.{Writes, without, written}
 
@@ -89,3 +89,18 @@ module _ (t i : ℕ) (v : ℤ) (u j : ℕ) where
 
 pub found-revalued : (es : List Entry) (k t i : ℕ) (v : ℤ) → k < length es → is-pair t i (getD es k blank) ≡ true → apart same-pair es ≡ true → found (revalued es k v) ≡ written (found es) t i v
 found-revalued es k t i v lt is a = fun-ext (λ u. fun-ext (λ j. revalued-point t i v u j es k lt is a))
+
+pub unfound : (es : List Entry) (t i : ℕ) → found es t i ≡ None → first (is-pair t i) es ≡ None
+unfound es t i h = go (first (is-pair t i) es) h
+  where
+    go : (o : Option Entry) → mapped value-of o ≡ None → o ≡ None
+    go None x = refl
+    go (Some e) x = let z : _≡_ {A = ℕ} 0 1 = cc in absurd (omega arith)
+
+-- one more of t's, of which there were fewer than 64
+pub shares-push : (es : List Entry) (t i : ℕ) (v : ℤ) → count-of t es < 64 → ((u : ℕ) → count-of u es ≤ 64) → (u : ℕ) {n : ℕ} → n ≡ count-of u (es ++ entry t i v ∷ []) → n ≤ 64
+shares-push es t i v lt all u e =
+    ⊎-elim
+    (λ same. omega (arith, e, count-push u es (entry t i v), ap (λ (b : Bool). cond {A = ℕ} b 1 0) same, ap (λ (w : ℕ). count-of w es) (eqb-true t u same)))
+    (λ differ. omega (arith, e, count-push u es (entry t i v), ap (λ (b : Bool). cond {A = ℕ} b 1 0) differ, all u))
+    (cases-bool (eqb t u))
