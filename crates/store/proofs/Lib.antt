@@ -5,6 +5,7 @@ pub mod Openings
 pub mod Overlaid
 pub mod Puts
 pub mod Refusals
+pub mod Rehearsed
 pub mod Replies
 pub mod Scans
 pub mod Workspace

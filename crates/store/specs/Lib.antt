@@ -5,3 +5,4 @@ pub mod Sums
 pub mod Finding
 pub mod Laid
 pub mod Soundness
+pub mod Rehearsals
