@@ -4,7 +4,7 @@ use lib.ListN.{getD, length}
 use mathlib.Core.Bool.{Bool, cond, false, true}
 use mathlib.Core.List.{List, _++_}
 use mathlib.Core.Logic.{⊎-elim}
-use mathlib.Core.Path.{_≡_, _∙_, ap, refl, sym}
+use mathlib.Core.Path.{_≡_, _∙_, ap, fun-ext, refl, sym}
 use native.Mathlib.Omega.{arith}
 use Prim.Native.Nat.{ℕ, _<_, suc, zero}
 use Rattle.std.proofs.shelf.Lists.{ext-getD, take-append-drop}
@@ -14,11 +14,12 @@ use Rattle.std.specs.declared.option.Option.the-variants.{None, Some}
 use Rattle.std.specs.Options.{isSome, valueOr}
 use Rattle.store.proofs.Images.{behind, behind-at, length-behind, told}
 use Rattle.store.proofs.Landing.{getD-items, length-items}
+use Rattle.store.proofs.Openings.{laid-nothing}
 use Rattle.store.specs.declared.table.Entry.{Entry}
 use Rattle.store.specs.Entries.{apart, bounded, first, is-on, is-pair, owned, same-item, size-of}
 use Rattle.store.specs.Finding.{first-bounded, mine, pair-by-item}
 use Rattle.store.specs.Laid.{getD-laid, length-laid}
-use Rattle.store.specs.Meaning.{laid}
+use Rattle.store.specs.Meaning.{laid, nothing}
 use Rattle.store.specs.Slices.{anyone, committed-behind, either, in-place-slice, items, pending-in, rest, some-below}
 
 -- all that f has is v
@@ -71,3 +72,9 @@ module _ (es : List Entry) (vs : List ℤ) (low : bounded (size-of vs) es ≡ tr
 
   pub slice-holds : vs ≡ in-place-slice (committed-behind es vs) (pending-in es vs) (rest vs)
   slice-holds = sym (ap (λ (l : List ℤ). l ++ rest vs) overlaid ∙ take-append-drop 1024 vs)
+
+-- with nothing pending the slice is the committed values and the rest
+pub slice-still : (vs : List ℤ) → in-place-slice (items vs) nothing (rest vs) ≡ vs
+slice-still vs =
+    let none : anyone nothing ≡ (λ _. None) = fun-ext (λ i. some-none (λ t. nothing t i) (pos 0) (λ _. refl) (λ _. refl) 65536) in
+    ap (λ (row : ℕ → Option ℤ). laid row (items vs) ++ rest vs) none ∙ ap (λ (l : List ℤ). l ++ rest vs) (laid-nothing (items vs)) ∙ take-append-drop 1024 vs

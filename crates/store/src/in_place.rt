@@ -43,6 +43,13 @@ impl<'a> InPlace<'a> {
         InPlace { values, images: Table::new() }
     }
 
+    /// The slice as it stands: the committed values with all pending ones over them, and what are no items.
+    pub fn values(&self) -> &[i32]
+        ensures { λ r. ⌜ now r ≡ in-place-slice (committed-behind (entries (now (self .entry) .images)) (now (now (self .entry) .values))) (pending-in (entries (now (self .entry) .images)) (now (now (self .entry) .values))) (rest (now (now (self .entry) .values))) ⌝ }
+    {
+        self.values
+    }
+
     /// Ends the store and gives the slice back, pending values and all.
     pub fn close(self) -> &'a mut [i32]
         ensures slice { λ r. ⌜ now r ≡ in-place-slice (committed-behind (entries (self .entry .images)) (now (self .entry .values))) (pending-in (entries (self .entry .images)) (now (self .entry .values))) (rest (now (self .entry .values))) ⌝ }

@@ -44,6 +44,13 @@ impl<'a> Private<'a> {
         Private { values, writes: Table::new() }
     }
 
+    /// The slice as it stands: the committed values, and what are no items.
+    pub fn values(&self) -> &[i32]
+        ensures { λ r. ⌜ now r ≡ private-slice (items (now (now (self .entry) .values))) (rest (now (now (self .entry) .values))) ⌝ }
+    {
+        self.values
+    }
+
     /// Ends the store and gives the slice back; pending writes are lost.
     pub fn close(self) -> &'a mut [i32]
         ensures slice { λ r. ⌜ now r ≡ private-slice (items (now (self .entry .values))) (rest (now (self .entry .values))) ⌝ }
