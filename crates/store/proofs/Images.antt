@@ -42,9 +42,9 @@ same-behind es fs vs ws long each =
     ext-getD (pos 0) (committed-behind fs ws) (committed-behind es vs)
     (omega (arith, length-behind fs ws, length-behind es vs))
     (λ i lt.
-      let lt′ : i < size-of ws = omega (arith, length-behind fs ws) in
-      let lt″ : i < size-of vs = omega arith in
-      behind-at fs ws i lt′ ∙ each i lt″ ∙ sym (behind-at es vs i lt″))
+    let lt′ : i < size-of ws = omega (arith, length-behind fs ws) in
+    let lt″ : i < size-of vs = omega arith in
+    behind-at fs ws i lt′ ∙ each i lt″ ∙ sym (behind-at es vs i lt″))
 
 -- ---- publish
 publish-point : (t : ℕ) (o : Option Entry) (x : ℤ) → behind x (spare t o) ≡ valueOr (told x (mine t o)) (behind x o)
@@ -57,15 +57,15 @@ publish-behind es vs t a =
     ext-getD (pos 0) (committed-behind fs vs) (laid (pending-in es vs t) (committed-behind es vs))
     (length-behind fs vs ∙ sym (length-laid (pending-in es vs t) (committed-behind es vs) ∙ length-behind es vs))
     (λ i lt.
-      let lt′ : i < size-of vs = omega (arith, length-behind fs vs) in
-      let x = getD vs i (pos 0) in
-      let o = first (is-on i) es in
-      behind-at fs vs i lt′
-      ∙ ap (behind x) (on-kept es t i a)
-      ∙ publish-point t o x
-      ∙ ap (λ (q : Option Entry). valueOr (told x q) (behind x o)) (sym (pair-by-item es t i a))
-      ∙ ap (λ (y : ℤ). valueOr (pending-in es vs t i) y) (sym (behind-at es vs i lt′))
-      ∙ sym (getD-laid (pending-in es vs t) (committed-behind es vs) i (omega (arith, length-behind es vs))))
+    let lt′ : i < size-of vs = omega (arith, length-behind fs vs) in
+    let x = getD vs i (pos 0) in
+    let o = first (is-on i) es in
+    behind-at fs vs i lt′
+    ∙ ap (behind x) (on-kept es t i a)
+    ∙ publish-point t o x
+    ∙ ap (λ (q : Option Entry). valueOr (told x q) (behind x o)) (sym (pair-by-item es t i a))
+    ∙ ap (λ (y : ℤ). valueOr (pending-in es vs t i) y) (sym (behind-at es vs i lt′))
+    ∙ sym (getD-laid (pending-in es vs t) (committed-behind es vs) i (omega (arith, length-behind es vs))))
 
 told-cond : (x : ℤ) (b : Bool) (o : Option Entry) → told x (cond b None o) ≡ cond b None (told x o)
 told-cond x true o = refl
@@ -87,10 +87,10 @@ module _ (es : List Entry) (vs : List ℤ) (t : ℕ) (low : bounded (size-of vs)
   discard-behind =
       same-behind es (kept-by (others t) es) vs (landed t es vs) (length-landed t es vs)
       (λ i lt.
-        let o = first (is-on i) es in
-        ap (behind (getD (landed t es vs) i (pos 0))) (on-kept es t i a)
-        ∙ ap (λ (y : ℤ). behind y (spare t o)) (back-at i)
-        ∙ discard-point o (getD vs i (pos 0)))
+      let o = first (is-on i) es in
+      ap (behind (getD (landed t es vs) i (pos 0))) (on-kept es t i a)
+      ∙ ap (λ (y : ℤ). behind y (spare t o)) (back-at i)
+      ∙ discard-point o (getD vs i (pos 0)))
 
   other-point : (u : ℕ) (o : Option Entry) (x : ℤ) → (u ≡ t → ⊥) → told (behind x (mine t o)) (mine u o) ≡ told x (mine u o)
   other-point u None x ne = refl
@@ -103,20 +103,20 @@ module _ (es : List Entry) (vs : List ℤ) (t : ℕ) (low : bounded (size-of vs)
   pub discard-pending : pending-in (kept-by (others t) es) (landed t es vs) ≡ without (pending-in es vs) t
   discard-pending =
       fun-ext (λ u. fun-ext (λ i.
-        let x = getD vs i (pos 0) in
-        let y = getD (landed t es vs) i (pos 0) in
-        let p = first (is-pair u i) es in
-        ap (told y) (pair-kept es t u i)
-        ∙ told-cond y (eqb u t) p
-        ∙ ⊎-elim
-          (λ same. cond-true (eqb u t) None (told y p) same ∙ sym (cond-true (eqb u t) None (told x p) same))
-          (λ differ.
-            ap (λ (r : Option ℤ). cond (eqb u t) None r)
-            (ap (λ (z : ℤ). told z p) (back-at i)
-            ∙ ap (told (behind x (mine t (first (is-on i) es)))) (pair-by-item es u i a)
-            ∙ other-point u (first (is-on i) es) x (eqb-false u t differ)
-            ∙ sym (ap (told x) (pair-by-item es u i a))))
-          (cases-bool (eqb u t))))
+      let x = getD vs i (pos 0) in
+      let y = getD (landed t es vs) i (pos 0) in
+      let p = first (is-pair u i) es in
+      ap (told y) (pair-kept es t u i)
+      ∙ told-cond y (eqb u t) p
+      ∙ ⊎-elim
+      (λ same. cond-true (eqb u t) None (told y p) same ∙ sym (cond-true (eqb u t) None (told x p) same))
+      (λ differ.
+      ap (λ (r : Option ℤ). cond (eqb u t) None r)
+      (ap (λ (z : ℤ). told z p) (back-at i)
+      ∙ ap (told (behind x (mine t (first (is-on i) es)))) (pair-by-item es u i a)
+      ∙ other-point u (first (is-on i) es) x (eqb-false u t differ)
+      ∙ sym (ap (told x) (pair-by-item es u i a))))
+      (cases-bool (eqb u t))))
 
 -- ---- a put
 module _ (es : List Entry) (vs : List ℤ) (t i : ℕ) (v : ℤ) (in′ : i < size-of vs) where
@@ -135,38 +135,38 @@ module _ (es : List Entry) (vs : List ℤ) (t i : ℕ) (v : ℤ) (in′ : i < si
     again-behind =
         same-behind es es vs ws (length-set vs i v)
         (λ j lt.
-          ⊎-elim
-          (λ same.
-            let on : first (is-on j) es ≡ Some e = ap (λ (k : ℕ). first (is-on k) es) same ∙ has in
-            ap (behind (getD ws j (pos 0))) on ∙ sym (ap (behind (getD vs j (pos 0))) on))
-          (λ ne. ap (λ (x : ℤ). behind x (first (is-on j) es)) (still-there j ne))
-          (cases-eq j i))
+        ⊎-elim
+        (λ same.
+        let on : first (is-on j) es ≡ Some e = ap (λ (k : ℕ). first (is-on k) es) same ∙ has in
+        ap (behind (getD ws j (pos 0))) on ∙ sym (ap (behind (getD vs j (pos 0))) on))
+        (λ ne. ap (λ (x : ℤ). behind x (first (is-on j) es)) (still-there j ne))
+        (cases-eq j i))
 
     own-point : (u : ℕ) (x : ℤ) → told v (mine u (Some e)) ≡ cond (eqb u t) (Some v) (told x (mine u (Some e)))
     own-point u x =
         ⊎-elim
         (λ same. ap (told v) (cond-true (owned u e) (Some e) None (eq-eqb (e .owner) u (eqb-true (e .owner) t own ∙ sym (eqb-true u t same)))) ∙ sym (cond-true (eqb u t) (Some v) (told x (mine u (Some e))) same))
         (λ differ.
-          let off : owned u e ≡ false = ne-eqb (e .owner) u (λ y. eqb-false u t differ (sym y ∙ eqb-true (e .owner) t own)) in
-          ap (told v) (cond-false (owned u e) (Some e) None off) ∙ sym (ap (told x) (cond-false (owned u e) (Some e) None off)) ∙ sym (cond-false (eqb u t) (Some v) (told x (mine u (Some e))) differ))
+        let off : owned u e ≡ false = ne-eqb (e .owner) u (λ y. eqb-false u t differ (sym y ∙ eqb-true (e .owner) t own)) in
+        ap (told v) (cond-false (owned u e) (Some e) None off) ∙ sym (ap (told x) (cond-false (owned u e) (Some e) None off)) ∙ sym (cond-false (eqb u t) (Some v) (told x (mine u (Some e))) differ))
         (cases-bool (eqb u t))
 
     pub again-pending : pending-in es ws ≡ written (pending-in es vs) t i v
     again-pending =
         fun-ext (λ u. fun-ext (λ j.
-          let x = getD vs j (pos 0) in
-          let p = first (is-pair u j) es in
-          ⊎-elim
-          (λ same.
-            let on : p ≡ mine u (Some e) = pair-by-item es u j a ∙ ap (mine u) (ap (λ (k : ℕ). first (is-on k) es) same ∙ has) in
-            let both : (eqb u t && eqb j i) ≡ eqb u t = ap (λ (b : Bool). eqb u t && b) (eq-eqb j i same) ∙ and-true (eqb u t) in
-            ap (λ (y : ℤ). told y p) (now-there j same)
-            ∙ ap (told v) on
-            ∙ own-point u x
-            ∙ sym (ap (λ (q : Option Entry). cond (eqb u t) (Some v) (told x q)) on)
-            ∙ sym (ap (λ (b : Bool). cond b (Some v) (told x p)) both))
-          (λ ne. ap (λ (y : ℤ). told y p) (still-there j ne) ∙ sym (cond-false (eqb u t && eqb j i) (Some v) (told x p) (and-right (eqb u t) (eqb j i) (ne-eqb j i ne))))
-          (cases-eq j i)))
+        let x = getD vs j (pos 0) in
+        let p = first (is-pair u j) es in
+        ⊎-elim
+        (λ same.
+        let on : p ≡ mine u (Some e) = pair-by-item es u j a ∙ ap (mine u) (ap (λ (k : ℕ). first (is-on k) es) same ∙ has) in
+        let both : (eqb u t && eqb j i) ≡ eqb u t = ap (λ (b : Bool). eqb u t && b) (eq-eqb j i same) ∙ and-true (eqb u t) in
+        ap (λ (y : ℤ). told y p) (now-there j same)
+        ∙ ap (told v) on
+        ∙ own-point u x
+        ∙ sym (ap (λ (q : Option Entry). cond (eqb u t) (Some v) (told x q)) on)
+        ∙ sym (ap (λ (b : Bool). cond b (Some v) (told x p)) both))
+        (λ ne. ap (λ (y : ℤ). told y p) (still-there j ne) ∙ sym (cond-false (eqb u t && eqb j i) (Some v) (told x p) (and-right (eqb u t) (eqb j i) (ne-eqb j i ne))))
+        (cases-eq j i)))
       where
         and-true : (x : Bool) → (x && true) ≡ x
         and-true true = refl
@@ -188,19 +188,19 @@ module _ (es : List Entry) (vs : List ℤ) (t i : ℕ) (v : ℤ) (in′ : i < si
     first-behind =
         same-behind es fs vs ws (length-set vs i v)
         (λ j lt.
-          let o = first (is-on j) es in
-          ap (behind (getD ws j (pos 0))) (first-pushed (is-on j) es new)
-          ∙ ⊎-elim
-            (λ same.
-              let none′ : o ≡ None = ap (λ (k : ℕ). first (is-on k) es) same ∙ none in
-              ap (λ (q : Option Entry). behind (getD ws j (pos 0)) (or-new (is-on j) new q)) none′
-              ∙ ap (behind (getD ws j (pos 0))) (cond-true (is-on j new) (Some new) None (eq-eqb i j (sym same)))
-              ∙ ap (λ (k : ℕ). getD vs k (pos 0)) (sym same)
-              ∙ sym (ap (behind (getD vs j (pos 0))) none′))
-            (λ ne.
-              ap (behind (getD ws j (pos 0))) (or-new-off (is-on j) o (ne-eqb i j (λ y. ne (sym y))))
-              ∙ ap (λ (x : ℤ). behind x o) (still-there j ne))
-            (cases-eq j i))
+        let o = first (is-on j) es in
+        ap (behind (getD ws j (pos 0))) (first-pushed (is-on j) es new)
+        ∙ ⊎-elim
+        (λ same.
+        let none′ : o ≡ None = ap (λ (k : ℕ). first (is-on k) es) same ∙ none in
+        ap (λ (q : Option Entry). behind (getD ws j (pos 0)) (or-new (is-on j) new q)) none′
+        ∙ ap (behind (getD ws j (pos 0))) (cond-true (is-on j new) (Some new) None (eq-eqb i j (sym same)))
+        ∙ ap (λ (k : ℕ). getD vs k (pos 0)) (sym same)
+        ∙ sym (ap (behind (getD vs j (pos 0))) none′))
+        (λ ne.
+        ap (behind (getD ws j (pos 0))) (or-new-off (is-on j) o (ne-eqb i j (λ y. ne (sym y))))
+        ∙ ap (λ (x : ℤ). behind x o) (still-there j ne))
+        (cases-eq j i))
 
     new-told : (b : Bool) → told v (cond b (Some new) None) ≡ cond b (Some v) None
     new-told true = refl
@@ -209,20 +209,20 @@ module _ (es : List Entry) (vs : List ℤ) (t i : ℕ) (v : ℤ) (in′ : i < si
     pub first-pending : pending-in fs ws ≡ written (pending-in es vs) t i v
     first-pending =
         fun-ext (λ u. fun-ext (λ j.
-          let x = getD vs j (pos 0) in
-          let p = first (is-pair u j) es in
-          ap (told (getD ws j (pos 0))) (first-pushed (is-pair u j) es new)
-          ∙ ⊎-elim
-            (λ same.
-              let none′ : p ≡ None = found-nothing es u j (ap (λ (k : ℕ). first (is-on k) es) same ∙ none) in
-              ap (λ (y : ℤ). told y (or-new (is-pair u j) new p)) (now-there j same)
-              ∙ ap (λ (q : Option Entry). told v (or-new (is-pair u j) new q)) none′
-              ∙ new-told (is-pair u j new)
-              ∙ ap (λ (b : Bool). cond b (Some v) None) (pair-flip t i u j)
-              ∙ sym (ap (λ (q : Option Entry). cond (eqb u t && eqb j i) (Some v) (told x q)) none′))
-            (λ ne.
-              let off : (eqb j i) ≡ false = ne-eqb j i ne in
-              ap (told (getD ws j (pos 0))) (or-new-off (is-pair u j) p (and-right (eqb t u) (eqb i j) (ne-eqb i j (λ y. ne (sym y)))))
-              ∙ ap (λ (y : ℤ). told y p) (still-there j ne)
-              ∙ sym (cond-false (eqb u t && eqb j i) (Some v) (told x p) (and-right (eqb u t) (eqb j i) off)))
-            (cases-eq j i)))
+        let x = getD vs j (pos 0) in
+        let p = first (is-pair u j) es in
+        ap (told (getD ws j (pos 0))) (first-pushed (is-pair u j) es new)
+        ∙ ⊎-elim
+        (λ same.
+        let none′ : p ≡ None = found-nothing es u j (ap (λ (k : ℕ). first (is-on k) es) same ∙ none) in
+        ap (λ (y : ℤ). told y (or-new (is-pair u j) new p)) (now-there j same)
+        ∙ ap (λ (q : Option Entry). told v (or-new (is-pair u j) new q)) none′
+        ∙ new-told (is-pair u j new)
+        ∙ ap (λ (b : Bool). cond b (Some v) None) (pair-flip t i u j)
+        ∙ sym (ap (λ (q : Option Entry). cond (eqb u t && eqb j i) (Some v) (told x q)) none′))
+        (λ ne.
+        let off : (eqb j i) ≡ false = ne-eqb j i ne in
+        ap (told (getD ws j (pos 0))) (or-new-off (is-pair u j) p (and-right (eqb t u) (eqb i j) (ne-eqb i j (λ y. ne (sym y)))))
+        ∙ ap (λ (y : ℤ). told y p) (still-there j ne)
+        ∙ sym (cond-false (eqb u t && eqb j i) (Some v) (told x p) (and-right (eqb u t) (eqb j i) off)))
+        (cases-eq j i)))

@@ -94,8 +94,8 @@ count-kept t q [] = omega arith
 count-kept t q (e ∷ es) =
     let less = count-kept t q es in
     elim (q e) as (λ b. count-of t (cond b (e ∷ kept-by q es) (kept-by q es)) ≤ length (cond (owned t e) (e ∷ kept-by (owned t) es) (kept-by (owned t) es))) [
-      true ↦ elim (owned t e) as (λ b. length (cond b (e ∷ kept-by (owned t) (kept-by q es)) (kept-by (owned t) (kept-by q es))) ≤ length (cond b (e ∷ kept-by (owned t) es) (kept-by (owned t) es))) [ true ↦ omega (arith, less) | false ↦ less ]
-    | false ↦ elim (owned t e) as (λ b. count-of t (kept-by q es) ≤ length (cond b (e ∷ kept-by (owned t) es) (kept-by (owned t) es))) [ true ↦ omega (arith, less) | false ↦ less ]
+      | true ↦ elim (owned t e) as (λ b. length (cond b (e ∷ kept-by (owned t) (kept-by q es)) (kept-by (owned t) (kept-by q es))) ≤ length (cond b (e ∷ kept-by (owned t) es) (kept-by (owned t) es))) [ true ↦ omega (arith, less) | false ↦ less ]
+      | false ↦ elim (owned t e) as (λ b. count-of t (kept-by q es) ≤ length (cond b (e ∷ kept-by (owned t) es) (kept-by (owned t) es))) [ true ↦ omega (arith, less) | false ↦ less ]
     ]
 
 first-kept-none : (q p : Entry → Bool) (es : List Entry) → first q es ≡ None → first q (kept-by p es) ≡ None
@@ -113,25 +113,25 @@ pair-kept (e ∷ es) t u i =
     let rest = kept-by (others t) es in
     ⊎-elim
     (λ own.
-      let gone : kept-by (others t) (e ∷ es) ≡ rest = cond-false (others t e) (e ∷ rest) rest (ap not own) in
-      ap (first (is-pair u i)) gone
-      ∙ less
-      ∙ ⊎-elim
-        (λ same. cond-true (eqb u t) None _ same ∙ sym (cond-true (eqb u t) None _ same))
-        (λ differ.
-          let off : owned u e ≡ false = ne-eqb (e .owner) u (λ x. eqb-false u t differ (sym x ∙ eqb-true (e .owner) t own)) in
-          ap (λ (o : Option Entry). cond (eqb u t) None o) (sym (first-past (is-pair u i) e es (and-left (owned u e) (is-on i e) off))))
-        (cases-bool (eqb u t)))
+    let gone : kept-by (others t) (e ∷ es) ≡ rest = cond-false (others t e) (e ∷ rest) rest (ap not own) in
+    ap (first (is-pair u i)) gone
+    ∙ less
+    ∙ ⊎-elim
+    (λ same. cond-true (eqb u t) None _ same ∙ sym (cond-true (eqb u t) None _ same))
+    (λ differ.
+    let off : owned u e ≡ false = ne-eqb (e .owner) u (λ x. eqb-false u t differ (sym x ∙ eqb-true (e .owner) t own)) in
+    ap (λ (o : Option Entry). cond (eqb u t) None o) (sym (first-past (is-pair u i) e es (and-left (owned u e) (is-on i e) off))))
+    (cases-bool (eqb u t)))
     (λ foreign.
-      let stays : kept-by (others t) (e ∷ es) ≡ e ∷ rest = cond-true (others t e) (e ∷ rest) rest (ap not foreign) in
-      ap (first (is-pair u i)) stays
-      ∙ ap (λ (o : Option Entry). cond (is-pair u i e) (Some e) o) less
-      ∙ ⊎-elim
-        (λ same.
-          let off : owned u e ≡ false = ne-eqb (e .owner) u (λ x. eqb-false (e .owner) t foreign (x ∙ eqb-true u t same)) in
-          cond-false (is-pair u i e) (Some e) _ (and-left (owned u e) (is-on i e) off) ∙ cond-true (eqb u t) None _ same ∙ sym (cond-true (eqb u t) None _ same))
-        (λ differ. ap (λ (o : Option Entry). cond (is-pair u i e) (Some e) o) (cond-false (eqb u t) None _ differ) ∙ sym (cond-false (eqb u t) None _ differ))
-        (cases-bool (eqb u t)))
+    let stays : kept-by (others t) (e ∷ es) ≡ e ∷ rest = cond-true (others t e) (e ∷ rest) rest (ap not foreign) in
+    ap (first (is-pair u i)) stays
+    ∙ ap (λ (o : Option Entry). cond (is-pair u i e) (Some e) o) less
+    ∙ ⊎-elim
+    (λ same.
+    let off : owned u e ≡ false = ne-eqb (e .owner) u (λ x. eqb-false (e .owner) t foreign (x ∙ eqb-true u t same)) in
+    cond-false (is-pair u i e) (Some e) _ (and-left (owned u e) (is-on i e) off) ∙ cond-true (eqb u t) None _ same ∙ sym (cond-true (eqb u t) None _ same))
+    (λ differ. ap (λ (o : Option Entry). cond (is-pair u i e) (Some e) o) (cond-false (eqb u t) None _ differ) ∙ sym (cond-false (eqb u t) None _ differ))
+    (cases-bool (eqb u t)))
     (cases-bool (owned t e))
 
 -- the entry, unless it is t's
@@ -146,14 +146,14 @@ on-kept (e ∷ es) t i a =
     let rest = kept-by (others t) es in
     ⊎-elim
     (λ on.
-      let none : first (is-on i) es ≡ None = ap (λ (j : ℕ). first (is-on j) es) (sym (eqb-true (e .item) i on)) ∙ first-clear same-item e es (p .0) in
-      let none′ : first (is-on i) rest ≡ None = first-kept-none (is-on i) (others t) es none in
-      elim (owned t e) as (λ b. first (is-on i) (cond (not b) (e ∷ rest) rest) ≡ cond b None (Some e)) [ true ↦ none′ | false ↦ first-here (is-on i) e rest on ]
-      ∙ sym (ap (spare t) (first-here (is-on i) e es on)))
+    let none : first (is-on i) es ≡ None = ap (λ (j : ℕ). first (is-on j) es) (sym (eqb-true (e .item) i on)) ∙ first-clear same-item e es (p .0) in
+    let none′ : first (is-on i) rest ≡ None = first-kept-none (is-on i) (others t) es none in
+    elim (owned t e) as (λ b. first (is-on i) (cond (not b) (e ∷ rest) rest) ≡ cond b None (Some e)) [ true ↦ none′ | false ↦ first-here (is-on i) e rest on ]
+    ∙ sym (ap (spare t) (first-here (is-on i) e es on)))
     (λ off.
-      elim (others t e) as (λ b. first (is-on i) (cond b (e ∷ rest) rest) ≡ first (is-on i) rest) [ true ↦ first-past (is-on i) e rest off | false ↦ refl ]
-      ∙ on-kept es t i (p .1)
-      ∙ sym (ap (spare t) (first-past (is-on i) e es off)))
+    elim (others t e) as (λ b. first (is-on i) (cond b (e ∷ rest) rest) ≡ first (is-on i) rest) [ true ↦ first-past (is-on i) e rest off | false ↦ refl ]
+    ∙ on-kept es t i (p .1)
+    ∙ sym (ap (spare t) (first-past (is-on i) e es off)))
     (cases-bool (is-on i e))
 
 -- ---- another value at one place

@@ -48,25 +48,25 @@ landed-at n t (e ∷ es) vs le b a i =
     let or-else : ℤ → Option Entry → ℤ = λ x o. valueOr (mapped value-of o) x in
     ⊎-elim
     (λ own.
-      let ws = set vs (e .item) (e .value) in
-      let le′ : n ≤ length ws = omega (arith, length-set vs (e .item) (e .value)) in
-      ap (λ (l : List ℤ). getD (landed t es l) i (pos 0)) (cond-true (owned t e) ws vs own)
-      ∙ landed-at n t es ws le′ (p .2) (q .1) i
-      ∙ ⊎-elim
-        (λ on.
-          let same : e .item ≡ i = eqb-true (e .item) i on in
-          let none : first (is-pair t i) es ≡ None = ap (λ (u : ℕ). first (is-pair u i) es) (sym (eqb-true (e .owner) t own)) ∙ ap (λ (j : ℕ). first (is-pair (e .owner) j) es) (sym same) ∙ first-clear same-pair e es (q .0) in
-          ap (or-else (getD ws i (pos 0))) none
-          ∙ subst (λ (j : ℕ). getD ws j (pos 0) ≡ e .value) same (getD-set-same vs (e .item) (e .value) (pos 0) (omega arith))
-          ∙ sym (ap (or-else (getD vs i (pos 0))) (first-here (is-pair t i) e es (and-from (owned t e) (is-on i e) own on))))
-        (λ off.
-          ap (λ (x : ℤ). valueOr (found es t i) x) (getD-set-other vs (e .item) i (e .value) (pos 0) (λ x. eqb-false (e .item) i off (sym x)))
-          ∙ sym (ap (or-else (getD vs i (pos 0))) (first-past (is-pair t i) e es (and-right (owned t e) (is-on i e) off))))
-        (cases-bool (is-on i e)))
+    let ws = set vs (e .item) (e .value) in
+    let le′ : n ≤ length ws = omega (arith, length-set vs (e .item) (e .value)) in
+    ap (λ (l : List ℤ). getD (landed t es l) i (pos 0)) (cond-true (owned t e) ws vs own)
+    ∙ landed-at n t es ws le′ (p .2) (q .1) i
+    ∙ ⊎-elim
+    (λ on.
+    let same : e .item ≡ i = eqb-true (e .item) i on in
+    let none : first (is-pair t i) es ≡ None = ap (λ (u : ℕ). first (is-pair u i) es) (sym (eqb-true (e .owner) t own)) ∙ ap (λ (j : ℕ). first (is-pair (e .owner) j) es) (sym same) ∙ first-clear same-pair e es (q .0) in
+    ap (or-else (getD ws i (pos 0))) none
+    ∙ subst (λ (j : ℕ). getD ws j (pos 0) ≡ e .value) same (getD-set-same vs (e .item) (e .value) (pos 0) (omega arith))
+    ∙ sym (ap (or-else (getD vs i (pos 0))) (first-here (is-pair t i) e es (and-from (owned t e) (is-on i e) own on))))
+    (λ off.
+    ap (λ (x : ℤ). valueOr (found es t i) x) (getD-set-other vs (e .item) i (e .value) (pos 0) (λ x. eqb-false (e .item) i off (sym x)))
+    ∙ sym (ap (or-else (getD vs i (pos 0))) (first-past (is-pair t i) e es (and-right (owned t e) (is-on i e) off))))
+    (cases-bool (is-on i e)))
     (λ foreign.
-      ap (λ (l : List ℤ). getD (landed t es l) i (pos 0)) (cond-false (owned t e) (set vs (e .item) (e .value)) vs foreign)
-      ∙ landed-at n t es vs le (p .2) (q .1) i
-      ∙ sym (ap (or-else (getD vs i (pos 0))) (first-past (is-pair t i) e es (and-left (owned t e) (is-on i e) foreign))))
+    ap (λ (l : List ℤ). getD (landed t es l) i (pos 0)) (cond-false (owned t e) (set vs (e .item) (e .value)) vs foreign)
+    ∙ landed-at n t es vs le (p .2) (q .1) i
+    ∙ sym (ap (or-else (getD vs i (pos 0))) (first-past (is-pair t i) e es (and-left (owned t e) (is-on i e) foreign))))
     (cases-bool (owned t e))
 
 pub length-items : (vs : List ℤ) → length (items vs) ≡ size-of vs
@@ -81,7 +81,7 @@ items-landed t es vs b a =
     let long : length (items ws) ≡ size-of vs = omega (arith, length-items ws, length-landed t es vs) in
     ext-getD (pos 0) (items ws) (laid (found es t) (items vs)) (long ∙ sym (length-laid (found es t) (items vs) ∙ length-items vs))
     (λ i lt.
-      let lt′ : i < size-of vs = omega (arith, long) in
-      getD-items ws i (omega (arith, length-landed t es vs))
-      ∙ landed-at (size-of vs) t es vs (omega arith) b a i
-      ∙ sym (getD-laid (found es t) (items vs) i (omega (arith, length-items vs)) ∙ ap (λ (x : ℤ). valueOr (found es t i) x) (getD-items vs i lt′)))
+    let lt′ : i < size-of vs = omega (arith, long) in
+    getD-items ws i (omega (arith, length-landed t es vs))
+    ∙ landed-at (size-of vs) t es vs (omega arith) b a i
+    ∙ sym (getD-laid (found es t) (items vs) i (omega (arith, length-items vs)) ∙ ap (λ (x : ℤ). valueOr (found es t i) x) (getD-items vs i lt′)))

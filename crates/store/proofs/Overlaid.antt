@@ -64,11 +64,11 @@ module _ (es : List Entry) (vs : List ℤ) (low : bounded (size-of vs) es ≡ tr
       let long = length-laid p cs ∙ length-behind es vs in
       ext-getD (pos 0) (laid p cs) (items vs) (long ∙ sym (length-items vs))
       (λ i lt.
-        let lt′ : i < size-of vs = omega (arith, long) in
-        getD-laid p cs i (omega (arith, length-behind es vs))
-        ∙ ap (λ (y : ℤ). valueOr (p i) y) (behind-at es vs i lt′)
-        ∙ over i (first (is-on i) es) refl
-        ∙ sym (getD-items vs i lt′))
+      let lt′ : i < size-of vs = omega (arith, long) in
+      getD-laid p cs i (omega (arith, length-behind es vs))
+      ∙ ap (λ (y : ℤ). valueOr (p i) y) (behind-at es vs i lt′)
+      ∙ over i (first (is-on i) es) refl
+      ∙ sym (getD-items vs i lt′))
 
   pub slice-holds : vs ≡ in-place-slice (committed-behind es vs) (pending-in es vs) (rest vs)
   slice-holds = sym (ap (λ (l : List ℤ). l ++ rest vs) overlaid ∙ take-append-drop 1024 vs)

@@ -9,6 +9,7 @@ use native.Mathlib.Omega.{arith}
 use Prim.Native.Nat.{ℕ, _<_, _≤_}
 use Rattle.records.specs.declared.refusal.Reason.the-variants.{ItemTaken, NoRoom, NoSuchItem}
 use Rattle.records.specs.declared.refusal.Refusal.{Refusal}
+use Rattle.std.proofs.shelf.Lists.{getD-take, length-take}
 use Rattle.std.proofs.shelf.Tests.{cond-false, cond-true, eq-eqb, eqb-true, lt-leb, ne-eqb, or-from, or-left}
 use Rattle.std.specs.declared.option.Option.{Option}
 use Rattle.std.specs.declared.option.Option.the-variants.{None, Some}
@@ -18,11 +19,18 @@ use Rattle.std.specs.Options.{isSome, mapped, valueOr}
 use Rattle.store.proofs.Images.{behind, behind-at, length-behind, told}
 use Rattle.store.proofs.Refusals.{has-one, has-room, is-taken, item-taken, no-room, not-taken}
 use Rattle.store.specs.declared.table.Entry.{Entry}
-use Rattle.store.specs.Entries.{apart, bounded, count-of, first, is-on, is-pair, owned, same-item, size-of}
+use Rattle.store.specs.declared.table.Table.{Table}
+use Rattle.store.specs.Entries.{apart, blank, bounded, count-of, entries, first, is-on, is-pair, owned, same-item, size-of}
 use Rattle.store.specs.Finding.{first-bounded, mine, pair-by-item}
 use Rattle.store.specs.Meaning.{held-count, looked, of-store, refused, row-count}
 use Rattle.store.specs.Slices.{committed-behind, pending-in}
 use Rattle.store.specs.Soundness.{count-of-le, held-in, row-in}
+
+-- the entry that a scan of the list found, read in the array
+pub on-is : (b : Table) (l : List Entry) (i k : ℕ) → l ≡ entries b → (k < length l) × (first (is-on i) l ≡ Some (getD l k blank)) → first (is-on i) (entries b) ≡ Some (getD (b .at) k blank)
+on-is b l i k same got =
+    let lt : k < b .len = omega (arith, got .0, ap length same, length-take (b .len) (b .at)) in
+    sym (ap (first (is-on i)) same) ∙ got .1 ∙ ap (λ (m : List Entry). Some (getD m k blank)) same ∙ ap Some (getD-take (b .len) (b .at) k blank lt)
 
 module _ (es : List Entry) (vs : List ℤ) (t i : ℕ) (few : length es ≤ 512) (low : bounded (size-of vs) es ≡ true) (a : apart same-item es ≡ true) (in′ : i < size-of vs) where
   abbrev cs : List ℤ
@@ -87,5 +95,5 @@ module _ (es : List Entry) (vs : List ℤ) (t i : ℕ) (few : length es ≤ 512)
     put-new lt =
         has-room false 512 512 cs ps t i there (not-taken ps t i (λ u _. ap isSome (row-none u))) (ap isSome (row-none t))
         (or-from (eqb (held-count ps (length cs)) 512) (leb 512 (row-count ps t (length cs)))
-          (ne-eqb (held-count ps (length cs)) 512 (λ y. omega (arith, held-in es vs few low a)))
-          (lt-leb 512 (row-count ps t (length cs)) (omega (arith, row-in es vs few low a t, count-of-le t es))))
+        (ne-eqb (held-count ps (length cs)) 512 (λ y. omega (arith, held-in es vs few low a)))
+        (lt-leb 512 (row-count ps t (length cs)) (omega (arith, row-in es vs few low a t, count-of-le t es))))

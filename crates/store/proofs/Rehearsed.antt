@@ -31,10 +31,10 @@ without-written p t i v = fun-ext (λ u. fun-ext (λ j. elim (eqb u t) as (λ b.
 pub without-none : (p : Writes) (t : ℕ) → ((i : ℕ) → p t i ≡ None) → without p t ≡ p
 without-none p t none =
     fun-ext (λ u. fun-ext (λ j.
-      ⊎-elim
-      (λ same. cond-true (eqb u t) None (p u j) (eq-eqb u t same) ∙ sym (ap (λ (w : ℕ). p w j) same ∙ none j))
-      (λ differ. cond-false (eqb u t) None (p u j) (ne-eqb u t differ))
-      (cases-eq u t)))
+    ⊎-elim
+    (λ same. cond-true (eqb u t) None (p u j) (eq-eqb u t same) ∙ sym (ap (λ (w : ℕ). p w j) same ∙ none j))
+    (λ differ. cond-false (eqb u t) None (p u j) (ne-eqb u t differ))
+    (cases-eq u t)))
 
 looked-like : (cs : List ℤ) (p q : Writes) (u i : ℕ) → p u i ≡ q u i → looked cs p u i ≡ looked cs q u i
 looked-like cs p q u i e = ap (λ (o : Option ℤ). cond (leb (length cs) i) (Err (of-store NoSuchItem)) (Ok (valueOr o (getD cs i (pos 0))))) e

@@ -51,5 +51,5 @@ module _ (es : List Entry) (vs : List ℤ) (t i : ℕ) (few : length es ≤ 512)
     put-new room share =
         has-room true 512 64 cs ps t i there refl (ap isSome none)
         (or-from (eqb (held-count ps (length cs)) 512) (leb 64 (row-count ps t (length cs)))
-          (ne-eqb (held-count ps (length cs)) 512 (λ y. omega (arith, held-beside es vs few low a)))
-          (lt-leb 64 (row-count ps t (length cs)) (omega (arith, row-beside es vs few low a t))))
+        (ne-eqb (held-count ps (length cs)) 512 (λ y. omega (arith, held-beside es vs few low a)))
+        (lt-leb 64 (row-count ps t (length cs)) (omega (arith, row-beside es vs few low a t))))

@@ -21,7 +21,6 @@ module _ (q : Entry → Bool) (list : List Entry) (k : ℕ) (lt : k < length lis
   first-more h = at-drop-more (first q) list k blank lt ∙ first-past q (getD list k blank) (drop (k + 1) list) h
 
 module _ (t : ℕ) (list : List Entry) (k : ℕ) (lt : k < length list) (vs : List ℤ) where
-
   pub landed-more : landed t (drop k list) vs ≡ landed t (drop (k + 1) list) (cond (owned t (getD list k blank)) (set vs (getD list k blank .item) (getD list k blank .value)) vs)
   landed-more = at-drop-more (λ l. landed t l vs) list k blank lt
 

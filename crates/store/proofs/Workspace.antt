@@ -41,13 +41,13 @@ new-point q e (Some f) h =
 pub found-pushed : (es : List Entry) (t i : ℕ) (v : ℤ) → first (is-pair t i) es ≡ None → found (es ++ entry t i v ∷ []) ≡ written (found es) t i v
 found-pushed es t i v none =
     fun-ext (λ u. fun-ext (λ j.
-      let e = entry t i v in
-      ap (mapped value-of) (first-pushed (is-pair u j) es e)
-      ∙ new-point (is-pair u j) e (first (is-pair u j) es)
-        (λ is.
-          let p = and-parts (eqb t u) (eqb i j) is in
-          ap (λ (w : ℕ). first (is-pair w j) es) (sym (eqb-true t u (p .0))) ∙ ap (λ (k : ℕ). first (is-pair t k) es) (sym (eqb-true i j (p .1))) ∙ none)
-      ∙ ap (λ (b : Bool). cond b (Some v) (found es u j)) (pair-flip t i u j)))
+    let e = entry t i v in
+    ap (mapped value-of) (first-pushed (is-pair u j) es e)
+    ∙ new-point (is-pair u j) e (first (is-pair u j) es)
+    (λ is.
+    let p = and-parts (eqb t u) (eqb i j) is in
+    ap (λ (w : ℕ). first (is-pair w j) es) (sym (eqb-true t u (p .0))) ∙ ap (λ (k : ℕ). first (is-pair t k) es) (sym (eqb-true i j (p .1))) ∙ none)
+    ∙ ap (λ (b : Bool). cond b (Some v) (found es u j)) (pair-flip t i u j)))
 
 clear-at : (e : Entry) (es : List Entry) (k : ℕ) → clear-of same-pair e es ≡ true → k < length es → same-pair e (getD es k blank) ≡ false
 clear-at e [] k h lt = absurd (omega arith)
@@ -72,19 +72,19 @@ module _ (t i : ℕ) (v : ℤ) (u j : ℕ) where
       let p = and-parts (clear-of same-pair e es) (apart same-pair es) a in
       ⊎-elim
       (λ hit.
-        let h = and-parts (owned u e) (is-on j e) hit in
-        let not-it : (eqb u t && eqb j i) ≡ true → ⊥ = λ x.
-          let m = and-parts (eqb u t) (eqb j i) x in
-          let o : e .owner ≡ t = eqb-true (e .owner) u (h .0) ∙ eqb-true u t (m .0) in
-          let n : e .item ≡ i = eqb-true (e .item) j (h .1) ∙ eqb-true j i (m .1) in
-          both-ways (same-pair e (getD es k blank)) (clear-at e es k (p .0) (omega arith)) (ap (λ (w : ℕ). is-pair w (e .item) (getD es k blank)) o ∙ ap (λ (w : ℕ). is-pair t w (getD es k blank)) n ∙ is) in
-        ap (mapped value-of) (first-here (is-pair u j) e (revalued es k v) hit)
-        ∙ ⊎-elim (λ x. absurd (not-it x)) (λ off. sym (cond-false (eqb u t && eqb j i) (Some v) (Some (e .value)) off)) (cases-bool (eqb u t && eqb j i))
-        ∙ sym (ap after (ap (mapped value-of) (first-here (is-pair u j) e es hit))))
+      let h = and-parts (owned u e) (is-on j e) hit in
+      let not-it : (eqb u t && eqb j i) ≡ true → ⊥ = λ x.
+      let m = and-parts (eqb u t) (eqb j i) x in
+      let o : e .owner ≡ t = eqb-true (e .owner) u (h .0) ∙ eqb-true u t (m .0) in
+      let n : e .item ≡ i = eqb-true (e .item) j (h .1) ∙ eqb-true j i (m .1) in
+      both-ways (same-pair e (getD es k blank)) (clear-at e es k (p .0) (omega arith)) (ap (λ (w : ℕ). is-pair w (e .item) (getD es k blank)) o ∙ ap (λ (w : ℕ). is-pair t w (getD es k blank)) n ∙ is) in
+      ap (mapped value-of) (first-here (is-pair u j) e (revalued es k v) hit)
+      ∙ ⊎-elim (λ x. absurd (not-it x)) (λ off. sym (cond-false (eqb u t && eqb j i) (Some v) (Some (e .value)) off)) (cases-bool (eqb u t && eqb j i))
+      ∙ sym (ap after (ap (mapped value-of) (first-here (is-pair u j) e es hit))))
       (λ miss.
-        ap (mapped value-of) (first-past (is-pair u j) e (revalued es k v) miss)
-        ∙ revalued-point es k (omega arith) is (p .1)
-        ∙ sym (ap after (ap (mapped value-of) (first-past (is-pair u j) e es miss))))
+      ap (mapped value-of) (first-past (is-pair u j) e (revalued es k v) miss)
+      ∙ revalued-point es k (omega arith) is (p .1)
+      ∙ sym (ap after (ap (mapped value-of) (first-past (is-pair u j) e es miss))))
       (cases-bool (is-pair u j e))
 
 pub found-revalued : (es : List Entry) (k t i : ℕ) (v : ℤ) → k < length es → is-pair t i (getD es k blank) ≡ true → apart same-pair es ≡ true → found (revalued es k v) ≡ written (found es) t i v

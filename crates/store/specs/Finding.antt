@@ -59,11 +59,11 @@ pair-by-item (e ∷ es) t i h =
     let p = and-parts (clear-of same-item e es) (apart same-item es) h in
     ⊎-elim
     (λ on.
-      let none : first (is-on i) es ≡ None = ap (λ (j : ℕ). first (is-on j) es) (sym (eqb-true (e .item) i on)) ∙ first-clear same-item e es (p .0) in
-      ap (λ (r : Option Entry). cond (owned t e && is-on i e) (Some e) r) (found-nothing es t i none)
-      ∙ ap (λ (b : Bool). cond (owned t e && b) (Some e) None) on
-      ∙ ap (λ (b : Bool). cond b (Some e) None) (and-true (owned t e))
-      ∙ sym (ap (mine t) (first-here (is-on i) e es on)))
+    let none : first (is-on i) es ≡ None = ap (λ (j : ℕ). first (is-on j) es) (sym (eqb-true (e .item) i on)) ∙ first-clear same-item e es (p .0) in
+    ap (λ (r : Option Entry). cond (owned t e && is-on i e) (Some e) r) (found-nothing es t i none)
+    ∙ ap (λ (b : Bool). cond (owned t e && b) (Some e) None) on
+    ∙ ap (λ (b : Bool). cond b (Some e) None) (and-true (owned t e))
+    ∙ sym (ap (mine t) (first-here (is-on i) e es on)))
     (λ off. first-past (is-pair t i) e es (and-right (owned t e) (is-on i e) off) ∙ pair-by-item es t i (p .1) ∙ sym (ap (mine t) (first-past (is-on i) e es off)))
     (cases-bool (is-on i e))
 
@@ -94,8 +94,8 @@ first-bounded n (e ∷ es) t i b h =
     let p = bounded-parts n e es b in
     ⊎-elim
     (λ is.
-      let q = and-parts (owned t e) (is-on i e) is in
-      (omega (arith, eqb-true (e .owner) t (q .0)), omega (arith, eqb-true (e .item) i (q .1))))
+    let q = and-parts (owned t e) (is-on i e) is in
+    (omega (arith, eqb-true (e .owner) t (q .0)), omega (arith, eqb-true (e .item) i (q .1))))
     (λ not′. first-bounded n es t i (p .2) (sym (ap isSome (first-past (is-pair t i) e es not′)) ∙ h))
     (cases-bool (is-pair t i e))
 
@@ -128,14 +128,14 @@ row-found n (e ∷ es) t a b =
     let less = row-found n es t (p .1) (q .2) in
     ⊎-elim
     (λ is.
-      let same : e .owner ≡ t = eqb-true (e .owner) t is in
-      let more : row-count (found (e ∷ es)) t n ≡ row-count (found es) t n + 1 = subst (λ (u : ℕ). row-count (found (e ∷ es)) u n ≡ row-count (found es) u n + 1) same (row-own n e es (p .0) (q .1)) in
-      let keeps : count-of t (e ∷ es) ≡ length (e ∷ kept-by (owned t) es) = ap length (cond-true (owned t e) _ _ is) in
-      omega (arith, more, less, keeps))
+    let same : e .owner ≡ t = eqb-true (e .owner) t is in
+    let more : row-count (found (e ∷ es)) t n ≡ row-count (found es) t n + 1 = subst (λ (u : ℕ). row-count (found (e ∷ es)) u n ≡ row-count (found es) u n + 1) same (row-own n e es (p .0) (q .1)) in
+    let keeps : count-of t (e ∷ es) ≡ length (e ∷ kept-by (owned t) es) = ap length (cond-true (owned t e) _ _ is) in
+    omega (arith, more, less, keeps))
     (λ off.
-      let same = row-other n e es t (λ x. eqb-false (e .owner) t off (sym x)) in
-      let keeps : count-of t (e ∷ es) ≡ count-of t es = ap length (cond-false (owned t e) _ _ off) in
-      omega (arith, same, less, keeps))
+    let same = row-other n e es t (λ x. eqb-false (e .owner) t off (sym x)) in
+    let keeps : count-of t (e ∷ es) ≡ count-of t es = ap length (cond-false (owned t e) _ _ off) in
+    omega (arith, same, less, keeps))
     (cases-bool (owned t e))
 
 pub held-found : (n : ℕ) (es : List Entry) → apart same-pair es ≡ true → bounded n es ≡ true → held-count (found es) n ≡ length es

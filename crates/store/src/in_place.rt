@@ -12,14 +12,13 @@ ghost use Rattle.store.specs.Slices.{committed-behind, in-place-slice, items, 
 ghost use Rattle.store.specs.Soundness.{few-entries, in-place-sound};
 use crate::store::Store;
 use crate::store::refusal;
+use crate::table::ITEMS;
 use crate::table::ROOM;
 use crate::table::Table;
 use crate::table::land;
 use crate::table::on;
 use records::refusal::Reason;
 use records::refusal::Refusal;
-
-const ITEMS: usize = 1024;
 
 /// A store in the caller's slice: an item's pending value stands in the slice, and the table keeps the item's
 /// before-image, which is its committed value meanwhile.
@@ -40,7 +39,10 @@ impl<'a> InPlace<'a> {
         ensures outside { λ r. ⌜ rest (now (r .values)) ≡ rest (now (values .entry)) ⌝ }
         ensures home { λ r. ⌜ name (r .values) ≡ name (values .entry) ⌝ }
     {
-        InPlace { values, images: Table::new() }
+        InPlace {
+            values,
+            images: Table::new(),
+        }
     }
 
     /// The slice as it stands: the committed values with all pending ones over them, and what are no items.
@@ -62,7 +64,9 @@ impl<'a> InPlace<'a> {
 
 pub impl Store for InPlace<'_> as InPlaceStore {
     const ROOM: usize = ROOM;
+
     const SHARE: usize = ROOM;
+
     const PRIVATE: bool = false;
 
     ghost committed = { λ s. committed-behind (entries (s .images)) (now (s .values)) };
@@ -109,9 +113,10 @@ pub impl Store for InPlace<'_> as InPlaceStore {
         if self.size() <= item as usize {
             return Err(refusal(Reason::NoSuchItem));
         }
-        if let Some(image) = on(self.images.list(), item) {
-            if image.owner != t {
-                return Ok(image.value);
+        let images = self.images.list();
+        if let Some(k) = on(images, item) {
+            if images[k].owner != t {
+                return Ok(images[k].value);
             }
         }
         Ok(self.values[item as usize])
@@ -123,10 +128,11 @@ pub impl Store for InPlace<'_> as InPlaceStore {
             return Err(refusal(Reason::NoSuchItem));
         }
         match on(self.images.list(), item) {
-            Some(image) => {
-                if image.owner != t {
+            Some(k) => {
+                if self.images.at[k].owner != t {
                     return Err(refusal(Reason::ItemTaken));
                 }
+                // The before-image of the first put stays.
             }
             None => {
                 if self.images.len == Self::ROOM {

@@ -16,8 +16,8 @@ pub fn rehearse_in_place(values: &mut [i32], t: u16, writes: &[Write]) -> usize
     ensures accepted { λ r. ⌜ r ≡ accepted false 512 512 (items (now (values .entry))) nothing t (now (writes .entry)) ⌝ }
     ensures slice { λ _. ⌜ now (values .exit) ≡ now (values .entry) ⌝ }
 {
-    let mut store = InPlace::open(values);
-    rehearse(&mut store, t, writes)
+    let mut in_place = InPlace::open(values);
+    rehearse(&mut in_place, t, writes)
 }
 
 /// Rehearses writes in a private store, beside the caller's slice, and leaves the slice as it was.
@@ -25,6 +25,6 @@ pub fn rehearse_beside(values: &mut [i32], t: u16, writes: &[Write]) -> usize
     ensures accepted { λ r. ⌜ r ≡ accepted true 512 64 (items (now (values .entry))) nothing t (now (writes .entry)) ⌝ }
     ensures slice { λ _. ⌜ now (values .exit) ≡ now (values .entry) ⌝ }
 {
-    let mut store = Private::open(values);
-    rehearse(&mut store, t, writes)
+    let mut beside = Private::open(values);
+    rehearse(&mut beside, t, writes)
 }

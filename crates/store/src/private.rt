@@ -12,6 +12,7 @@ ghost use Rattle.store.specs.Slices.{items, private-slice, rest};
 ghost use Rattle.store.specs.Soundness.{few-entries, private-sound};
 use crate::store::Store;
 use crate::store::refusal;
+use crate::table::ITEMS;
 use crate::table::ROOM;
 use crate::table::Table;
 use crate::table::count;
@@ -19,8 +20,6 @@ use crate::table::find;
 use crate::table::land;
 use records::refusal::Reason;
 use records::refusal::Refusal;
-
-const ITEMS: usize = 1024;
 
 /// A store beside the caller's slice: the slice has the committed values, and the table the pending writes.
 #[derive(Drop)]
@@ -41,7 +40,10 @@ impl<'a> Private<'a> {
         ensures outside { λ r. ⌜ rest (now (r .values)) ≡ rest (now (values .entry)) ⌝ }
         ensures home { λ r. ⌜ name (r .values) ≡ name (values .entry) ⌝ }
     {
-        Private { values, writes: Table::new() }
+        Private {
+            values,
+            writes: Table::new(),
+        }
     }
 
     /// The slice as it stands: the committed values, and what are no items.
@@ -63,7 +65,9 @@ impl<'a> Private<'a> {
 
 pub impl Store for Private<'_> as PrivateStore {
     const ROOM: usize = ROOM;
+
     const SHARE: usize = 64;
+
     const PRIVATE: bool = true;
 
     ghost committed = { λ s. items (now (s .values)) };
@@ -110,9 +114,9 @@ pub impl Store for Private<'_> as PrivateStore {
         if self.size() <= item as usize {
             return Err(refusal(Reason::NoSuchItem));
         }
-        let list = self.writes.list();
-        match find(list, t, item) {
-            Some(k) => Ok(list[k].value),
+        let writes = self.writes.list();
+        match find(writes, t, item) {
+            Some(k) => Ok(writes[k].value),
             None => Ok(self.values[item as usize]),
         }
     }

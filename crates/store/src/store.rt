@@ -85,5 +85,8 @@ pub trait Store {
 pub(crate) fn refusal(reason: Reason) -> Refusal
     ensures { λ r. ⌜ r ≡ of-store reason ⌝ }
 {
-    Refusal { layer: Layer::Store, reason }
+    Refusal {
+        layer: Layer::Store,
+        reason,
+    }
 }

@@ -18,7 +18,11 @@ pub struct Entry {
     pub value: i32,
 }
 
+/// How many entries a table has room for.
 pub const ROOM: usize = 512;
+
+/// How many values of a slice are items, at most.
+pub const ITEMS: usize = 1024;
 
 #[derive(Drop)]
 pub struct Table {
@@ -31,8 +35,15 @@ impl Table {
         ensures entries { λ r. ⌜ entries r ≡ [] ⌝ }
         ensures len { λ r. ⌜ r .len ≡ 0 ⌝ }
     {
-        let none = Entry { owner: 0, item: 0, value: 0 };
-        Table { at: [none; ROOM], len: 0 }
+        let none = Entry {
+            owner: 0,
+            item: 0,
+            value: 0,
+        };
+        Table {
+            at: [none; ROOM],
+            len: 0,
+        }
     }
 
     pub fn list(&self) -> &[Entry]
@@ -91,13 +102,13 @@ pub fn find(list: &[Entry], t: u16, item: u16) -> Option<usize>
     None
 }
 
-/// The entry on the item, whose ever it is.
-pub fn on(list: &[Entry], item: u16) -> Option<Entry>
-    ensures { λ r. ⌜ r ≡ first (is-on item) (now (list .entry)) ⌝ }
+/// The place of the entry on the item, whose ever it is.
+pub fn on(list: &[Entry], item: u16) -> Option<usize>
+    ensures { λ r. ⌜ BySome r (first (is-on item) (now (list .entry)) ≡ None) (λ k. (k < length (now (list .entry))) × (first (is-on item) (now (list .entry)) ≡ Some (getD (now (list .entry)) k blank))) ⌝ }
 {
     for k in 0..list.len() {
         if list[k].item == item {
-            return Some(list[k]);
+            return Some(k);
         }
     }
     None

@@ -15,9 +15,9 @@ use Rattle.store.specs.Slices.{committed-behind, in-place-slice, items, pendin
 pub returns : need.returns
 returns c =
     let vs = c .args .values .now in
-    let was = c .open-store .ensures in
+    let was = c .open-in-place .ensures in
     let did = c .rehearse .ensures in
-    let s = c .open-store .result in
+    let s = c .open-in-place .result in
     let e = c .rehearse .last .store in
     let none : (i : ℕ) → pending-in (entries (s .images)) (s .values .now) (c .args .t) i ≡ None = λ i. ap (λ (p : Writes). p (c .args .t) i) (was .pending) in
     let committed = did .committed ∙ was .committed in
@@ -26,10 +26,10 @@ returns c =
     record {
       accepted = did .accepted ∙ ap (λ (l : List ℤ). accepted false 512 512 l (pending-in (entries (s .images)) (s .values .now)) (c .args .t) (c .args .writes .now)) (was .committed) ∙ ap (λ (p : Writes). accepted false 512 512 (items vs) p (c .args .t) (c .args .writes .now)) (was .pending);
       slice =
-        _∙_ {b = e .values .now} (search needs)
-        (slice-holds (entries (e .images)) (e .values .now) (e .bounded) (e .apart)
-        ∙ ap (λ (l : List ℤ). in-place-slice l (pending-in (entries (e .images)) (e .values .now)) (rest (e .values .now))) committed
-        ∙ ap (λ (p : Writes). in-place-slice (items vs) p (rest (e .values .now))) pending
-        ∙ ap (in-place-slice (items vs) nothing) outside
-        ∙ slice-still vs);
+          _∙_ {b = e .values .now} (search needs)
+          (slice-holds (entries (e .images)) (e .values .now) (e .bounded) (e .apart)
+          ∙ ap (λ (l : List ℤ). in-place-slice l (pending-in (entries (e .images)) (e .values .now)) (rest (e .values .now))) committed
+          ∙ ap (λ (p : Writes). in-place-slice (items vs) p (rest (e .values .now))) pending
+          ∙ ap (in-place-slice (items vs) nothing) outside
+          ∙ slice-still vs);
     }

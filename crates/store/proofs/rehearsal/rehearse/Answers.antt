@@ -38,16 +38,16 @@ loop-w-again g c =
     let fits : SFits w32 (w .value) = search needs in
     let after : q ≡ cond (isOk (c .put .result)) (written p t (w .item) (w .value)) p = c .put .ensures .pending ∙ ap (λ (v : ℤ). cond (isOk (c .put .result)) (written p t (w .item) v) p) (toZ-ofZ w32 (w .value) fits) in
     elim (c .if-is-ok .came) [
-      then-is-ok way ↦
-        let ok : isOk (c .put .result) ≡ true = sym (c .is-ok .ensures .value) ∙ way .if-is-ok .taken in
-        let wrote : q ≡ written p t (w .item) (w .value) = after ∙ cond-true (isOk (c .put .result)) (written p t (w .item) (w .value)) p ok in
-        let more = accepted-more (m .private) (m .room) (m .share) cs t ws k (c .loop-w-test .taken) p (sym (ap isSome same) ∙ took (c .put .result) why (c .put .ensures .answer) ok) in
-        (omega (arith, way .count-is, inv .0), c .put .ensures .committed ∙ inv .1, ap (λ (r : Writes). without r t) wrote ∙ without-written p t (w .item) (w .value) ∙ inv .2, c .put .ensures .place ∙ inv .3, omega (arith, way .count-is, inv .4, more, ap left wrote))
-    | else-is-ok way ↦
-        let no′ : isOk (c .put .result) ≡ false = sym (c .is-ok .ensures .value) ∙ way .if-is-ok .left in
-        let stays : q ≡ p = after ∙ cond-false (isOk (c .put .result)) (written p t (w .item) (w .value)) p no′ in
-        let less = accepted-less (m .private) (m .room) (m .share) cs t ws k (c .loop-w-test .taken) p (sym (ap isSome same) ∙ declined (c .put .result) why (c .put .ensures .answer) no′) in
-        (omega (arith, way .count-is, inv .0), c .put .ensures .committed ∙ inv .1, ap (λ (r : Writes). without r t) stays ∙ inv .2, c .put .ensures .place ∙ inv .3, omega (arith, way .count-is, inv .4, less, ap left stays))
+      | then-is-ok way ↦
+          let ok : isOk (c .put .result) ≡ true = sym (c .is-ok .ensures .value) ∙ way .if-is-ok .taken in
+          let wrote : q ≡ written p t (w .item) (w .value) = after ∙ cond-true (isOk (c .put .result)) (written p t (w .item) (w .value)) p ok in
+          let more = accepted-more (m .private) (m .room) (m .share) cs t ws k (c .loop-w-test .taken) p (sym (ap isSome same) ∙ took (c .put .result) why (c .put .ensures .answer) ok) in
+          (omega (arith, way .count-is, inv .0), c .put .ensures .committed ∙ inv .1, ap (λ (r : Writes). without r t) wrote ∙ without-written p t (w .item) (w .value) ∙ inv .2, c .put .ensures .place ∙ inv .3, omega (arith, way .count-is, inv .4, more, ap left wrote))
+      | else-is-ok way ↦
+          let no′ : isOk (c .put .result) ≡ false = sym (c .is-ok .ensures .value) ∙ way .if-is-ok .left in
+          let stays : q ≡ p = after ∙ cond-false (isOk (c .put .result)) (written p t (w .item) (w .value)) p no′ in
+          let less = accepted-less (m .private) (m .room) (m .share) cs t ws k (c .loop-w-test .taken) p (sym (ap isSome same) ∙ declined (c .put .result) why (c .put .ensures .answer) no′) in
+          (omega (arith, way .count-is, inv .0), c .put .ensures .committed ∙ inv .1, ap (λ (r : Writes). without r t) stays ∙ inv .2, c .put .ensures .place ∙ inv .3, omega (arith, way .count-is, inv .4, less, ap left stays))
     ]
 
 pub returns : need.returns

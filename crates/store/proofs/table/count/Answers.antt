@@ -16,6 +16,6 @@ pub loop-k-again : need.loop-k-again
 loop-k-again c =
     let step = length-kept-by-more (owned (c .args .t)) (c .args .list .now) (c .loop-k .k) blank (c .loop-k-test .taken) in
     elim (c .if-list-k .came) [
-      then-list-k w ↦ (omega (arith, w .n-is, c .loop-k .inv .0), grind (arith, tells, step, w .n-is, w .if-list-k .taken, c .loop-k .inv .1))
-    | else-list-k w ↦ (omega (arith, w .n-is, c .loop-k .inv .0), grind (arith, tells, step, w .n-is, w .if-list-k .left, c .loop-k .inv .1))
+      | then-list-k w ↦ (omega (arith, w .n-is, c .loop-k .inv .0), grind (arith, tells, step, w .n-is, w .if-list-k .taken, c .loop-k .inv .1))
+      | else-list-k w ↦ (omega (arith, w .n-is, c .loop-k .inv .0), grind (arith, tells, step, w .n-is, w .if-list-k .left, c .loop-k .inv .1))
     ]

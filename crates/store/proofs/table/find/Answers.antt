@@ -30,7 +30,7 @@ loop-k-again c =
     let list = c .args .list .now in
     let k = c .loop-k .k in
     let not-it : q (getD list k blank) ≡ false = elim (c .else-list-k .came) [
-      else-list-k·by·then-list-k·else-list-k-2 w ↦ grind (arith, tells, w .if-list-k-2 .left)
-    | else-list-k·by·else-list-k w ↦ grind (arith, tells, w .if-list-k .left)
+      | else-list-k·by·then-list-k·else-list-k-2 w ↦ grind (arith, tells, w .if-list-k-2 .left)
+      | else-list-k·by·else-list-k w ↦ grind (arith, tells, w .if-list-k .left)
     ] in
     sym (first-more q list k (c .loop-k-test .taken) not-it) ∙ c .loop-k .inv

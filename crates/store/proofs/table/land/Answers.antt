@@ -32,6 +32,6 @@ loop-k-again c =
     let on : List ℤ → List ℤ = λ ws. landed t (drop (k + 1) list) ws in
     let step = landed-more t list k (c .loop-k-test .taken) vs in
     elim (c .if-e-t .came) [
-      then-e-t w ↦ let fits : SFits w32 (e .value) = search needs in ap on (w .values-is ∙ ap (set vs (e .item)) (toZ-ofZ w32 (e .value) fits) ∙ sym (cond-true _ (set vs (e .item) (e .value)) vs (eq-eqb _ _ (w .if-e-t .taken)))) ∙ sym step ∙ c .loop-k .inv
-    | else-e-t w ↦ ap on (w .values-is ∙ sym (cond-false _ (set vs (e .item) (e .value)) vs (ne-eqb _ _ (w .if-e-t .left)))) ∙ sym step ∙ c .loop-k .inv
+      | then-e-t w ↦ let fits : SFits w32 (e .value) = search needs in ap on (w .values-is ∙ ap (set vs (e .item)) (toZ-ofZ w32 (e .value) fits) ∙ sym (cond-true _ (set vs (e .item) (e .value)) vs (eq-eqb _ _ (w .if-e-t .taken)))) ∙ sym step ∙ c .loop-k .inv
+      | else-e-t w ↦ ap on (w .values-is ∙ sym (cond-false _ (set vs (e .item) (e .value)) vs (ne-eqb _ _ (w .if-e-t .left)))) ∙ sym step ∙ c .loop-k .inv
     ]

@@ -17,25 +17,26 @@ use Rattle.std.specs.declared.option.Option.the-variants.{None, Some}
 use Rattle.std.specs.declared.result.Result.the-variants.{Err, Ok}
 use Rattle.store.proofs.Images.{again-behind, again-pending, first-behind, first-pending, length-behind}
 use Rattle.store.proofs.in_place.InPlaceStore.put.Needs as need
-use Rattle.store.proofs.in_place.InPlaceStore.put.Needs.{in-None·else-self-eq-ROOM, in-Some·else-image-t}
+use Rattle.store.proofs.in_place.InPlaceStore.put.Needs.{in-None·else-self-eq-ROOM, in-Some·else-self-k}
 use Rattle.store.proofs.Kept.{apart-push, bounded-push, eqb-flip}
-use Rattle.store.proofs.Puts.{put-again, put-full, put-new, put-taken}
+use Rattle.store.proofs.Puts.{on-is, put-again, put-full, put-new, put-taken}
 use Rattle.store.specs.declared.in_place.InPlace.{InPlace}
 use Rattle.store.specs.declared.table.Entry.{Entry}
-use Rattle.store.specs.Entries.{apart, bounded, entries, entry, first, is-on, same-item, size-of}
+use Rattle.store.specs.Entries.{apart, blank, bounded, entries, entry, first, is-on, same-item, size-of}
 use Rattle.store.specs.Meaning.{Place, answered, refused, written}
 use Rattle.store.specs.Slices.{committed-behind, pending-in, rest}
 use Rattle.store.specs.Soundness.{few-entries}
 
-pub returns-then-image-t : need.returns-then-image-t
-returns-then-image-t c =
+pub returns-then-self-k : need.returns-then-self-k
+returns-then-self-k c =
     let s = c .args .self .now in
     let es = entries (s .images) in
     let i = c .args .item in
     let in′ : i < size-of (s .values .now) = omega (arith, length-behind es (s .values .now)) in
-    let has : first (is-on i) es ≡ Some (c .in-Some .image) = sym (ap (first (is-on i)) (c .list .ensures .value)) ∙ sym (c .on .ensures) ∙ c .in-Some .is in
+    let e = getD (s .images .at) (c .in-Some .k) blank in
+    let has : first (is-on i) es ≡ Some e = on-is (s .images) (c .list .result .now) i (c .in-Some .k) (c .list .ensures .value) (c .in-Some .ensures tt) in
     record {
-      answer = ap Err (c .refusal-then-image-t .ensures) ∙ sym (ap answered (put-taken es (s .values .now) (c .args .t) i (few-entries (s .images) (s .fits)) (s .bounded) (s .apart) in′ (c .in-Some .image) has (c .if-image-t .taken)));
+      answer = ap Err (c .refusal-then-self-k .ensures) ∙ sym (ap answered (put-taken es (s .values .now) (c .args .t) i (few-entries (s .images) (s .fits)) (s .bounded) (s .apart) in′ e has (c .if-self-k .taken)));
       committed = refl;
       pending = refl;
       place = refl;
@@ -47,7 +48,7 @@ returns-then-self-eq-ROOM c =
     let es = entries (s .images) in
     let i = c .args .item in
     let in′ : i < size-of (s .values .now) = omega (arith, length-behind es (s .values .now)) in
-    let none : first (is-on i) es ≡ None = sym (ap (first (is-on i)) (c .list .ensures .value)) ∙ sym (c .on .ensures) ∙ c .in-None .is in
+    let none : first (is-on i) es ≡ None = sym (ap (first (is-on i)) (c .list .ensures .value)) ∙ c .in-None .ensures tt in
     let full : length es ≡ 512 = sym (ap length (c .list .ensures .value)) ∙ c .list .ensures .long ∙ c .if-self-eq-ROOM .taken in
     record {
       answer = ap Err (c .refusal-then-self-eq-ROOM .ensures) ∙ sym (ap answered (put-full es (s .values .now) (c .args .t) i (few-entries (s .images) (s .fits)) (s .bounded) (s .apart) in′ none full));
@@ -67,7 +68,7 @@ ghost-self c =
     let t = c .args .t in
     let i = c .args .item in
     let in′ : i < n = omega (arith, length-behind es (s .values .now)) in
-    let none : first (is-on i) es ≡ None = sym (ap (first (is-on i)) (c .list .ensures .value)) ∙ sym (c .on .ensures) ∙ c .in-None .is in
+    let none : first (is-on i) es ≡ None = sym (ap (first (is-on i)) (c .list .ensures .value)) ∙ c .in-None .ensures tt in
     let more = c .push .ensures .entries in
     let small : t < 65536 = omega arith in
     (omega (arith, c .push .ensures .len, s .fits), (ap (apart same-item) more ∙ apart-push same-item es _ (λ f. eqb-flip i (f .item)) (s .apart) none, (ap (bounded n) more ∙ bounded-push n es _ (s .bounded) small in′, tt)))
@@ -75,7 +76,7 @@ ghost-self c =
 pub index-self-i-2 : need.index-self-i-2
 index-self-i-2 c =
     let s = c .args .self .now in
-    let same : c .match-on .self .values ≡ s .values = elim (c .match-on .came) [ in-Some·else-image-t w ↦ ap (λ (m : InPlace). m .values) (w .self-is) | in-None·else-self-eq-ROOM w ↦ ap (λ (m : InPlace). m .values) (w .self-is) ] in
+    let same : c .match-on .self .values ≡ s .values = elim (c .match-on .came) [ in-Some·else-self-k w ↦ ap (λ (m : InPlace). m .values) (w .self-is) | in-None·else-self-eq-ROOM w ↦ ap (λ (m : InPlace). m .values) (w .self-is) ] in
     omega (arith, length-behind (entries (s .images)) (s .values .now), ap (λ (r : RefT (List ℤ)). length (r .now)) same)
 
 pub returns : need.returns
@@ -89,21 +90,21 @@ returns c =
     let v = c .args .value in
     let few = few-entries (s .images) (s .fits) in
     let in′ : i < size-of vs = omega (arith, length-behind es vs) in
-    let on : c .on .result ≡ first (is-on i) es = c .on .ensures ∙ ap (first (is-on i)) (c .list .ensures .value) in
     let x = getD vs i (pos 0) in
     let way : (fs : List Entry) × (entries (m .images) ≡ fs) × (m .values ≡ s .values) × (refused false 512 512 (committed-behind es vs) (pending-in es vs) t i ≡ None) × (committed-behind fs (set vs i v) ≡ committed-behind es vs) × (pending-in fs (set vs i v) ≡ written (pending-in es vs) t i v) =
-      elim (c .match-on .came) [
-        in-Some·else-image-t w ↦
-          let has : first (is-on i) es ≡ Some (w .in-Some .image) = sym on ∙ w .in-Some .is in
-          let own = eq-eqb (w .in-Some .image .owner) t (w .if-image-t .left) in
-          (es, ap (λ (n : InPlace). entries (n .images)) (w .self-is), ap (λ (n : InPlace). n .values) (w .self-is), put-again es vs t i few (s .bounded) (s .apart) in′ (w .in-Some .image) has (w .if-image-t .left), again-behind es vs t i v in′ (w .in-Some .image) has own (s .apart), again-pending es vs t i v in′ (w .in-Some .image) has own (s .apart))
+    elim (c .match-on .came) [
+      | in-Some·else-self-k w ↦
+          let e = getD (s .images .at) (w .in-Some .k) blank in
+          let has : first (is-on i) es ≡ Some e = on-is (s .images) (c .list .result .now) i (w .in-Some .k) (c .list .ensures .value) (w .in-Some .ensures tt) in
+          let own = eq-eqb (e .owner) t (w .if-self-k .left) in
+          (es, ap (λ (n : InPlace). entries (n .images)) (w .self-is), ap (λ (n : InPlace). n .values) (w .self-is), put-again es vs t i few (s .bounded) (s .apart) in′ e has (w .if-self-k .left), again-behind es vs t i v in′ e has own (s .apart), again-pending es vs t i v in′ e has own (s .apart))
       | in-None·else-self-eq-ROOM w ↦
-          let none : first (is-on i) es ≡ None = sym on ∙ w .in-None .is in
+          let none : first (is-on i) es ≡ None = sym (ap (first (is-on i)) (c .list .ensures .value)) ∙ w .in-None .ensures tt in
           let long : length es ≡ s .images .len = sym (ap length (c .list .ensures .value)) ∙ c .list .ensures .long in
           let room : length es < 512 = omega (arith, few, w .if-self-eq-ROOM .left) in
           let fits : SFits w32 x = search needs in
           (es ++ entry t i x ∷ [], ap (λ (n : InPlace). entries (n .images)) (w .self-is) ∙ w .push .ensures .entries ∙ ap (λ (y : ℤ). es ++ entry t i y ∷ []) (toZ-ofZ w32 x fits), ap (λ (n : InPlace). n .values) (w .self-is), put-new es vs t i few (s .bounded) (s .apart) in′ none room, first-behind es vs t i v in′ none, first-pending es vs t i v in′ none)
-      ] in
+    ] in
     let fs = way .0 in
     let slice : set (m .values .now) i (toZ w32 (ofZ w32 v)) ≡ set vs i v = ap (λ (r : RefT (List ℤ)). set (r .now) i (toZ w32 (ofZ w32 v))) (way .2) ∙ ap (set vs i) (toZ-ofZ w32 v (c .fits .value)) in
     let place : RefT (List ℤ) → List ℤ → Place = λ r l. record { home = name r ∷ []; outside = rest l } in

@@ -29,7 +29,7 @@ returns-in-None c =
     let t = c .args .t in
     let i = c .args .item in
     let in′ : i < size-of (s .values .now) = omega (arith, length-items (s .values .now)) in
-    let none : found es t i ≡ None = sym (ap (λ (l : List Entry). found l t i) (c .list-list .ensures .value)) ∙ c .in-None .ensures tt in
+    let none : found es t i ≡ None = sym (ap (λ (l : List Entry). found l t i) (c .list-writes .ensures .value)) ∙ c .in-None .ensures tt in
     let x = getD (s .values .now) i (pos 0) in
     let fits : SFits w32 x = search needs in
     ap Ok (toZ-ofZ w32 x fits)

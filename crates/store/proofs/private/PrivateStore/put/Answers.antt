@@ -58,9 +58,9 @@ returns-then-self-eq-ROOM c =
     let in′ : i < size-of vs = omega (arith, length-items vs) in
     let none : found es t i ≡ None = sym (ap (λ (l : List Entry). found l t i) (c .list .ensures .value)) ∙ c .in-rest .ensures tt in
     let why : refused true 512 64 (items vs) (found es) t i ≡ Some (of-store NoRoom) = elim (c .then-self-eq-ROOM .came) [
-        then-self-eq-ROOM·by·then-self-eq-ROOM w ↦ put-full es vs t i few (s .bounded) (s .apart) in′ none (sym (ap length (c .list .ensures .value)) ∙ c .list .ensures .long ∙ w .if-self-eq-ROOM .taken)
+      | then-self-eq-ROOM·by·then-self-eq-ROOM w ↦ put-full es vs t i few (s .bounded) (s .apart) in′ none (sym (ap length (c .list .ensures .value)) ∙ c .list .ensures .long ∙ w .if-self-eq-ROOM .taken)
       | then-self-eq-ROOM·by·else-self-eq-ROOM·then-count-ge-SHARE w ↦ put-over es vs t i few (s .bounded) (s .apart) in′ none (omega (arith, w .if-count-ge-SHARE .taken, w .count .ensures ∙ ap (count-of t) (w .list-else-self-eq-ROOM .ensures .value)))
-      ] in
+    ] in
     record { answer = ap Err (c .refusal-then-self-eq-ROOM .ensures) ∙ sym (ap answered why); committed = refl; pending = refl; place = refl }
 
 pub ghost-self-2 : need.ghost-self-2

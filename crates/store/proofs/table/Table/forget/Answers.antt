@@ -17,6 +17,6 @@ loop-i-again c =
     let x = getD ys i blank in
     let in′ : i < length ys = omega (arith, c .loop-i .inv .long) in
     elim (c .if-e-t .came) [
-      then-e-t w ↦ rw (w .self-is, w .k-is) (keeping-more-set (c .loop-i .inv) in′ (grind (arith, tells, w .if-e-t .taken)) (getD-default ys i blank x in′))
-    | else-e-t w ↦ rw (w .self-is, w .k-is) (keeping-more-no {x = x} (c .loop-i .inv) in′ (grind (arith, tells, w .if-e-t .left)) (getD-default ys i blank x in′))
+      | then-e-t w ↦ rw (w .self-is, w .k-is) (keeping-more-set (c .loop-i .inv) in′ (grind (arith, tells, w .if-e-t .taken)) (getD-default ys i blank x in′))
+      | else-e-t w ↦ rw (w .self-is, w .k-is) (keeping-more-no {x = x} (c .loop-i .inv) in′ (grind (arith, tells, w .if-e-t .left)) (getD-default ys i blank x in′))
     ]
