@@ -39,17 +39,15 @@ impl<'a> InPlace<'a> {
         ensures outside { λ r. ⌜ rest (now (r .values)) ≡ rest (now (values .entry)) ⌝ }
         ensures home { λ r. ⌜ name (r .values) ≡ name (values .entry) ⌝ }
     {
-        InPlace {
-            values,
-            images: Table::new(),
-        }
+        let images = Table::new();
+        InPlace { values, images }
     }
 
     /// The slice as it stands: the committed values with all pending ones over them, and what are no items.
     pub fn values(&self) -> &[i32]
         ensures { λ r. ⌜ now r ≡ in-place-slice (committed-behind (entries (now (self .entry) .images)) (now (now (self .entry) .values))) (pending-in (entries (now (self .entry) .images)) (now (now (self .entry) .values))) (rest (now (now (self .entry) .values))) ⌝ }
     {
-        self.values
+        &*self.values
     }
 
     /// Ends the store and gives the slice back, pending values and all.

@@ -40,17 +40,15 @@ impl<'a> Private<'a> {
         ensures outside { λ r. ⌜ rest (now (r .values)) ≡ rest (now (values .entry)) ⌝ }
         ensures home { λ r. ⌜ name (r .values) ≡ name (values .entry) ⌝ }
     {
-        Private {
-            values,
-            writes: Table::new(),
-        }
+        let writes = Table::new();
+        Private { values, writes }
     }
 
     /// The slice as it stands: the committed values, and what are no items.
     pub fn values(&self) -> &[i32]
         ensures { λ r. ⌜ now r ≡ private-slice (items (now (now (self .entry) .values))) (rest (now (now (self .entry) .values))) ⌝ }
     {
-        self.values
+        &*self.values
     }
 
     /// Ends the store and gives the slice back; pending writes are lost.
