@@ -11,8 +11,8 @@ pub returns : need.returns
 returns c =
     let vs = c .args .values .now in
     record {
-      committed = ap (λ (es : List Entry). committed-behind es vs) (c .new .ensures .entries) ∙ laid-nothing (items vs);
-      pending = ap (λ (es : List Entry). pending-in es vs) (c .new .ensures .entries);
+      committed = ap (λ (es : List Entry). committed-behind es vs) (c .new-images .ensures .entries) ∙ laid-nothing (items vs);
+      pending = ap (λ (es : List Entry). pending-in es vs) (c .new-images .ensures .entries);
       outside = refl;
       home = refl;
     }
