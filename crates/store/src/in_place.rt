@@ -126,18 +126,18 @@ pub impl Store for InPlace<'_> as InPlaceStore {
             return Err(refusal(Reason::NoSuchItem));
         }
         match on(self.images.list(), item) {
-            Some(k) => {
-                if self.images.at[k].owner != t {
-                    return Err(refusal(Reason::ItemTaken));
-                }
-                // The before-image of the first put stays.
-            }
             None => {
                 if self.images.len == Self::ROOM {
                     return Err(refusal(Reason::NoRoom));
                 }
                 let before = self.values[i];
                 self.images.push(t, item, before);
+            }
+            Some(k) => {
+                if self.images.at[k].owner != t {
+                    return Err(refusal(Reason::ItemTaken));
+                }
+                // The before-image of the first put stays.
             }
         }
         self.values[i] = value;

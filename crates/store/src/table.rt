@@ -12,26 +12,26 @@ ghost use Rattle.store.specs.Entries.{blank, bounded, count-of, entries, entry
 
 /// A value that is kept for a transaction and an item.
 #[derive(Clone, Copy)]
-pub struct Entry {
-    pub owner: u16,
-    pub item: u16,
-    pub value: i32,
+pub(crate) struct Entry {
+    pub(crate) owner: u16,
+    pub(crate) item: u16,
+    pub(crate) value: i32,
 }
 
 /// How many entries a table has room for.
-pub const ROOM: usize = 512;
+pub(crate) const ROOM: usize = 512;
 
 /// How many values of a slice are items, at most.
-pub const ITEMS: usize = 1024;
+pub(crate) const ITEMS: usize = 1024;
 
 #[derive(Drop)]
-pub struct Table {
-    pub at: [Entry; ROOM],
-    pub len: usize,
+pub(crate) struct Table {
+    pub(crate) at: [Entry; ROOM],
+    pub(crate) len: usize,
 }
 
 impl Table {
-    pub fn new() -> Table
+    pub(crate) fn new() -> Table
         ensures entries { λ r. ⌜ entries r ≡ [] ⌝ }
         ensures len { λ r. ⌜ r .len ≡ 0 ⌝ }
     {
@@ -46,7 +46,7 @@ impl Table {
         }
     }
 
-    pub fn list(&self) -> &[Entry]
+    pub(crate) fn list(&self) -> &[Entry]
         requires { ⌜ now self .len ≤ 512 ⌝ }
         ensures value { λ r. ⌜ now r ≡ entries (now (self .entry)) ⌝ }
         ensures long { λ r. ⌜ length (now r) ≡ now (self .entry) .len ⌝ }
@@ -54,7 +54,7 @@ impl Table {
         &self.at[0..self.len]
     }
 
-    pub fn push(&mut self, owner: u16, item: u16, value: i32)
+    pub(crate) fn push(&mut self, owner: u16, item: u16, value: i32)
         requires { ⌜ now self .len < 512 ⌝ }
         ensures entries { λ _. ⌜ entries (now (self .exit)) ≡ entries (now (self .entry)) ++ entry owner item value ∷ [] ⌝ }
         ensures len { λ _. ⌜ now (self .exit) .len ≡ now (self .entry) .len + 1 ⌝ }
@@ -63,7 +63,7 @@ impl Table {
         self.len += 1;
     }
 
-    pub fn replace(&mut self, k: usize, value: i32)
+    pub(crate) fn replace(&mut self, k: usize, value: i32)
         requires within { ⌜ k < now self .len ⌝ }
         requires fits { ⌜ now self .len ≤ 512 ⌝ }
         ensures entries { λ _. ⌜ entries (now (self .exit)) ≡ revalued (entries (now (self .entry))) k value ⌝ }
@@ -73,7 +73,7 @@ impl Table {
     }
 
     /// Takes the transaction's entries out, and leaves the others in their order.
-    pub fn forget(&mut self, t: u16)
+    pub(crate) fn forget(&mut self, t: u16)
         requires { ⌜ now self .len ≤ 512 ⌝ }
         ensures entries { λ _. ⌜ entries (now (self .exit)) ≡ kept-by (others t) (entries (now (self .entry))) ⌝ }
         ensures len { λ _. ⌜ now (self .exit) .len ≤ now (self .entry) .len ⌝ }
@@ -91,7 +91,7 @@ impl Table {
 }
 
 /// The place of the transaction's entry on the item.
-pub fn find(list: &[Entry], t: u16, item: u16) -> Option<usize>
+pub(crate) fn find(list: &[Entry], t: u16, item: u16) -> Option<usize>
     ensures { λ r. ⌜ BySome r (found (now (list .entry)) t item ≡ None) (λ k. (k < length (now (list .entry))) × (is-pair t item (getD (now (list .entry)) k blank) ≡ true) × (found (now (list .entry)) t item ≡ Some (getD (now (list .entry)) k blank .value))) ⌝ }
 {
     for k in 0..list.len() {
@@ -103,7 +103,7 @@ pub fn find(list: &[Entry], t: u16, item: u16) -> Option<usize>
 }
 
 /// The place of the entry on the item, whose ever it is.
-pub fn on(list: &[Entry], item: u16) -> Option<usize>
+pub(crate) fn on(list: &[Entry], item: u16) -> Option<usize>
     ensures { λ r. ⌜ BySome r (first (is-on item) (now (list .entry)) ≡ None) (λ k. (k < length (now (list .entry))) × (first (is-on item) (now (list .entry)) ≡ Some (getD (now (list .entry)) k blank))) ⌝ }
 {
     for k in 0..list.len() {
@@ -115,7 +115,7 @@ pub fn on(list: &[Entry], item: u16) -> Option<usize>
 }
 
 /// How many entries are the transaction's.
-pub fn count(list: &[Entry], t: u16) -> usize
+pub(crate) fn count(list: &[Entry], t: u16) -> usize
     ensures { λ r. ⌜ r ≡ count-of t (now (list .entry)) ⌝ }
 {
     let mut n = 0;
@@ -128,7 +128,7 @@ pub fn count(list: &[Entry], t: u16) -> usize
 }
 
 /// Puts the values of the transaction's entries into their places.
-pub fn land(list: &[Entry], t: u16, values: &mut [i32])
+pub(crate) fn land(list: &[Entry], t: u16, values: &mut [i32])
     requires { ⌜ bounded (length (now values)) (now list) ≡ true ⌝ }
     ensures { λ _. ⌜ now (values .exit) ≡ landed t (now (list .entry)) (now (values .entry)) ⌝ }
 {
