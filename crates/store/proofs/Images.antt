@@ -1,18 +1,18 @@
 -- What the calls of an in-place store do to its meaning.
-use lib.Dec.{eqb, leb}
+use lib.Dec.{eqb}
 use lib.IntN.{ℤ, pos}
 use lib.ListN.{getD, length, set}
 use mathlib.Core.Bool.{Bool, _&&_, cond, false, true}
 use mathlib.Core.List.{List, [], _++_, _∷_}
 use mathlib.Core.Logic.{⊎-elim}
-use mathlib.Core.Path.{_≡_, _∙_, ap, fun-ext, refl, subst, sym}
+use mathlib.Core.Path.{_≡_, _∙_, ap, fun-ext, refl, sym}
 use native.Mathlib.Omega.{arith}
-use Prim.Native.Nat.{ℕ, _<_, _≤_}
+use Prim.Native.Nat.{ℕ, _<_}
 use Rattle.std.proofs.shelf.Lists.{ext-getD, getD-set-other, getD-set-same, length-set}
-use Rattle.std.proofs.shelf.Tests.{and-left, and-right, cases-bool, cases-eq, cond-false, cond-true, eq-eqb, eqb-false, eqb-true, ne-eqb}
+use Rattle.std.proofs.shelf.Tests.{and-right, cases-bool, cases-eq, cond-false, cond-true, eq-eqb, eqb-false, eqb-true, ne-eqb}
 use Rattle.std.specs.declared.option.Option.{Option}
 use Rattle.std.specs.declared.option.Option.the-variants.{None, Some}
-use Rattle.std.specs.Options.{isSome, mapped, valueOr}
+use Rattle.std.specs.Options.{mapped, valueOr}
 use Rattle.std.specs.shelf.Lists.{kept-by}
 use Rattle.store.proofs.Kept.{first-pushed, on-kept, or-new, pair-kept, spare}
 use Rattle.store.proofs.Landing.{getD-items, landed-at, length-items, length-landed}

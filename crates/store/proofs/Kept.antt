@@ -1,21 +1,21 @@
 -- What a push, a filter and a new value leave of a list of entries.
 use lib.Dec.{eqb, ltb}
 use lib.IntN.{ℤ}
-use lib.ListN.{getD, length}
+use lib.ListN.{length}
 use mathlib.Core.Bool.{Bool, _&&_, cond, false, not, true}
 use mathlib.Core.List.{List, [], _++_, _∷_}
 use mathlib.Core.Logic.{⊎-elim}
 use mathlib.Core.Path.{_≡_, _∙_, ap, refl, sym}
 use native.Mathlib.Omega.{arith}
 use Prim.Native.Nat.{ℕ, _+_, _<_, _≤_, suc, zero}
-use Rattle.std.proofs.shelf.Tests.{and-from, and-left, and-parts, and-right, cases-bool, cond-false, cond-true, eq-eqb, eqb-false, eqb-true, lt-ltb, ne-eqb, not-true}
+use Rattle.std.proofs.shelf.Tests.{and-from, and-left, and-parts, cases-bool, cond-false, cond-true, eqb-false, eqb-true, lt-ltb, ne-eqb}
 use Rattle.std.proofs.shelf.Ways.{tells}
 use Rattle.std.specs.declared.option.Option.{Option}
 use Rattle.std.specs.declared.option.Option.the-variants.{None, Some}
 use Rattle.std.specs.shelf.Lists.{kept-by}
 use Rattle.store.specs.declared.table.Entry.{Entry}
-use Rattle.store.specs.Entries.{apart, blank, bounded, clear-of, count-of, entry, first, is-on, is-pair, others, owned, revalued, same-item, same-pair}
-use Rattle.store.specs.Finding.{bounded-parts, first-clear, first-here, first-past, found-nothing}
+use Rattle.store.specs.Entries.{apart, bounded, clear-of, count-of, entry, first, is-on, is-pair, others, owned, revalued, same-item, same-pair}
+use Rattle.store.specs.Finding.{first-clear, first-here, first-past}
 
 pub eqb-flip : (a b : ℕ) → eqb a b ≡ eqb b a
 eqb-flip a b = grind (arith, tells)

@@ -1,17 +1,17 @@
 -- What is in the slice after a transaction's entries have landed there.
 use lib.IntN.{ℤ, pos}
 use lib.ListN.{getD, length, set}
-use mathlib.Core.Bool.{Bool, _&&_, cond, false, true}
+use mathlib.Core.Bool.{_&&_, cond, false, true}
 use mathlib.Core.List.{List, [], _∷_}
 use mathlib.Core.Logic.{⊎-elim}
 use mathlib.Core.Path.{_≡_, _∙_, ap, refl, subst, sym}
 use native.Mathlib.Omega.{arith}
 use lib.Dec.{ltb}
-use Prim.Native.Nat.{ℕ, _+_, _<_, _≤_}
+use Prim.Native.Nat.{ℕ, _<_, _≤_}
 use Rattle.std.proofs.shelf.Lists.{drop-set-lt, ext-getD, getD-set-other, getD-set-same, getD-take, length-set, length-take}
 use Rattle.std.proofs.shelf.Tests.{and-from, and-left, and-parts, and-right, cases-bool, cond-false, cond-true, eqb-false, eqb-true, lt-ltb}
 use Rattle.std.specs.declared.option.Option.{Option}
-use Rattle.std.specs.declared.option.Option.the-variants.{None, Some}
+use Rattle.std.specs.declared.option.Option.the-variants.{None}
 use Rattle.std.specs.Options.{mapped, valueOr}
 use Rattle.store.specs.declared.table.Entry.{Entry}
 use Rattle.store.specs.Entries.{apart, bounded, clear-of, first, found, is-on, is-pair, landed, owned, same-pair, size-of, value-of}

@@ -1,14 +1,14 @@
 -- What the slice of an in-place store holds, said by the store's meaning.
 use lib.IntN.{ℤ, pos}
-use lib.ListN.{getD, length}
-use mathlib.Core.Bool.{Bool, cond, false, true}
+use lib.ListN.{getD}
+use mathlib.Core.Bool.{cond, false, true}
 use mathlib.Core.List.{List, _++_}
 use mathlib.Core.Logic.{⊎-elim}
 use mathlib.Core.Path.{_≡_, _∙_, ap, fun-ext, refl, sym}
 use native.Mathlib.Omega.{arith}
 use Prim.Native.Nat.{ℕ, _<_, suc, zero}
 use Rattle.std.proofs.shelf.Lists.{ext-getD, take-append-drop}
-use Rattle.std.proofs.shelf.Tests.{cases-bool, cases-eq, cond-false, cond-true, eq-eqb}
+use Rattle.std.proofs.shelf.Tests.{cases-eq, cond-true, eq-eqb}
 use Rattle.std.specs.declared.option.Option.{Option}
 use Rattle.std.specs.declared.option.Option.the-variants.{None, Some}
 use Rattle.std.specs.Options.{isSome, valueOr}

@@ -2,25 +2,23 @@
 use lib.Dec.{eqb, leb}
 use lib.IntN.{ℤ, pos}
 use lib.ListN.{getD, length}
-use mathlib.Core.Bool.{Bool, _&&_, _||_, cond, false, not, true}
+use mathlib.Core.Bool.{Bool, cond, false, true}
 use mathlib.Core.List.{List}
 use mathlib.Core.Path.{_≡_, _∙_, ap, refl, sym}
 use native.Mathlib.Omega.{arith}
 use Prim.Native.Nat.{ℕ, _<_, _≤_}
 use Rattle.records.specs.declared.refusal.Reason.the-variants.{ItemTaken, NoRoom, NoSuchItem}
-use Rattle.records.specs.declared.refusal.Refusal.{Refusal}
 use Rattle.std.proofs.shelf.Lists.{getD-take, length-take}
-use Rattle.std.proofs.shelf.Tests.{cond-false, cond-true, eq-eqb, eqb-true, lt-leb, ne-eqb, or-from, or-left}
+use Rattle.std.proofs.shelf.Tests.{cond-false, cond-true, eq-eqb, lt-leb, ne-eqb, or-from, or-left}
 use Rattle.std.specs.declared.option.Option.{Option}
 use Rattle.std.specs.declared.option.Option.the-variants.{None, Some}
-use Rattle.std.specs.declared.result.Result.{Result}
 use Rattle.std.specs.declared.result.Result.the-variants.{Err, Ok}
-use Rattle.std.specs.Options.{isSome, mapped, valueOr}
+use Rattle.std.specs.Options.{isSome, valueOr}
 use Rattle.store.proofs.Images.{behind, behind-at, length-behind, told}
 use Rattle.store.proofs.Refusals.{has-one, has-room, is-taken, item-taken, no-room, not-taken}
 use Rattle.store.specs.declared.table.Entry.{Entry}
 use Rattle.store.specs.declared.table.Table.{Table}
-use Rattle.store.specs.Entries.{apart, blank, bounded, count-of, entries, first, is-on, is-pair, owned, same-item, size-of}
+use Rattle.store.specs.Entries.{apart, blank, bounded, entries, first, is-on, is-pair, owned, same-item, size-of}
 use Rattle.store.specs.Finding.{first-bounded, mine, pair-by-item}
 use Rattle.store.specs.Meaning.{held-count, looked, of-store, refused, row-count}
 use Rattle.store.specs.Slices.{committed-behind, pending-in}

@@ -5,12 +5,12 @@ use lib.ListN.{length}
 use mathlib.Core.Bool.{Bool, _&&_, _||_, cond, false, not, true}
 use mathlib.Core.List.{List}
 use mathlib.Core.Logic.{⊎-elim}
-use mathlib.Core.Path.{_≡_, _∙_, ap, refl, sym}
+use mathlib.Core.Path.{_≡_, _∙_, ap, refl}
 use native.Mathlib.Omega.{arith}
 use Prim.Native.Nat.{ℕ, _<_, suc, zero}
 use Rattle.records.specs.declared.refusal.Reason.the-variants.{ItemTaken, NoRoom, NoSuchItem}
 use Rattle.records.specs.declared.refusal.Refusal.{Refusal}
-use Rattle.std.proofs.shelf.Tests.{and-from, and-left, and-right, cases-bool, cases-eq, cond-false, cond-true, eq-eqb, ne-eqb, or-from, or-left, or-right}
+use Rattle.std.proofs.shelf.Tests.{and-from, and-left, and-right, cases-eq, cond-false, cond-true, eq-eqb, ne-eqb, or-from, or-left, or-right}
 use Rattle.std.specs.declared.option.Option.{Option}
 use Rattle.std.specs.declared.option.Option.the-variants.{None, Some}
 use Rattle.std.specs.Options.{isSome}

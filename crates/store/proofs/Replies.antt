@@ -2,13 +2,12 @@
 use lib.Dec.{eqb, leb}
 use lib.IntN.{ℤ, pos}
 use lib.ListN.{getD, length}
-use mathlib.Core.Bool.{Bool, _||_, cond, false, true}
+use mathlib.Core.Bool.{false, true}
 use mathlib.Core.List.{List}
-use mathlib.Core.Path.{_≡_, _∙_, ap, refl, sym}
+use mathlib.Core.Path.{_≡_, _∙_, ap, refl}
 use native.Mathlib.Omega.{arith}
 use Prim.Native.Nat.{ℕ, _<_, _≤_}
 use Rattle.records.specs.declared.refusal.Reason.the-variants.{NoRoom, NoSuchItem}
-use Rattle.records.specs.declared.refusal.Refusal.{Refusal}
 use Rattle.std.proofs.shelf.Tests.{cond-false, eq-eqb, le-leb, lt-leb, ne-eqb, or-from, or-left, or-right}
 use Rattle.std.specs.declared.option.Option.{Option}
 use Rattle.std.specs.declared.option.Option.the-variants.{None, Some}

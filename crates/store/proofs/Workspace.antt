@@ -1,14 +1,14 @@
 -- What the calls of a private store do to the pending writes.
-use lib.Dec.{eqb, leb}
-use lib.IntN.{ℤ, pos}
+use lib.Dec.{eqb}
+use lib.IntN.{ℤ}
 use lib.ListN.{getD, length}
-use mathlib.Core.Bool.{Bool, _&&_, _||_, cond, false, not, true}
+use mathlib.Core.Bool.{Bool, _&&_, cond, false, not, true}
 use mathlib.Core.List.{List, [], _++_, _∷_}
 use mathlib.Core.Logic.{⊎-elim}
 use mathlib.Core.Path.{_≡_, _∙_, ap, fun-ext, refl, sym}
 use native.Mathlib.Omega.{arith}
 use Prim.Native.Nat.{ℕ, _+_, _<_, _≤_, suc, zero}
-use Rattle.std.proofs.shelf.Tests.{and-from, and-parts, both-ways, cases-bool, cond-false, cond-true, eq-eqb, eqb-true, not-true}
+use Rattle.std.proofs.shelf.Tests.{and-parts, both-ways, cases-bool, cond-false, eqb-true, not-true}
 use Rattle.std.specs.declared.option.Option.{Option}
 use Rattle.std.specs.declared.option.Option.the-variants.{None, Some}
 use Rattle.std.specs.Options.{mapped}
@@ -17,7 +17,7 @@ use Rattle.store.proofs.Kept.{count-push, eqb-flip, first-pushed, or-new, pair
 use Rattle.store.specs.declared.table.Entry.{Entry}
 use Rattle.store.specs.Entries.{apart, blank, clear-of, count-of, entry, first, found, is-on, is-pair, others, owned, revalued, same-pair, value-of}
 use Rattle.store.specs.Finding.{first-here, first-past}
-use Rattle.store.specs.Meaning.{Writes, without, written}
+use Rattle.store.specs.Meaning.{without, written}
 
 mapped-cond : (f : Entry → ℤ) (b : Bool) (o : Option Entry) → mapped f (cond b None o) ≡ cond b None (mapped f o)
 mapped-cond f true o = refl

@@ -1,7 +1,7 @@
 -- The entries of a table, as a list.
 use lib.Dec.{eqb, ltb}
 use lib.IntN.{ℤ, pos}
-use lib.ListN.{getD, length, set, take}
+use lib.ListN.{length, set, take}
 use mathlib.Core.Bool.{Bool, _&&_, cond, not, true}
 use mathlib.Core.List.{List, [], _∷_}
 use Prim.Native.Nat.{ℕ, min, suc, zero}

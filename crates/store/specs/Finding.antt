@@ -1,21 +1,20 @@
 -- What a list of entries says of each pair and of each item.
 use lib.Dec.{ltb}
-use lib.IntN.{ℤ}
 use lib.ListN.{length}
 use mathlib.Core.Bool.{Bool, _&&_, cond, false, not, true}
 use mathlib.Core.List.{List, [], _∷_}
 use mathlib.Core.Logic.{⊎-elim}
 use mathlib.Core.Path.{_≡_, _∙_, ap, fun-ext, refl, subst, sym}
 use native.Mathlib.Omega.{arith}
-use Prim.Native.Nat.{ℕ, _+_, _<_, _≤_}
-use Rattle.std.proofs.shelf.Tests.{and-from, and-left, and-parts, and-right, cases-bool, cases-eq, cond-false, cond-true, eq-eqb, eqb-false, eqb-true, false≢true, ltb-true, ne-eqb, not-true}
+use Prim.Native.Nat.{ℕ, _+_, _<_}
+use Rattle.std.proofs.shelf.Tests.{and-from, and-left, and-parts, and-right, cases-bool, cond-false, cond-true, eq-eqb, eqb-false, eqb-true, false≢true, ltb-true, ne-eqb, not-true}
 use Rattle.std.specs.declared.option.Option.{Option}
 use Rattle.std.specs.declared.option.Option.the-variants.{None, Some}
 use Rattle.std.specs.Options.{isSome, mapped}
 use Rattle.std.specs.shelf.Lists.{kept-by}
 use Rattle.store.specs.declared.table.Entry.{Entry}
 use Rattle.store.specs.Entries.{apart, bounded, clear-of, count-of, first, found, is-on, is-pair, owned, same-item, same-pair, value-of}
-use Rattle.store.specs.Meaning.{Writes, held-count, row-count, sum-below}
+use Rattle.store.specs.Meaning.{held-count, row-count, sum-below}
 use Rattle.store.specs.Sums.{sum-more, sum-zero}
 
 module _ (q : Entry → Bool) (e : Entry) (es : List Entry) where

@@ -1,14 +1,14 @@
 -- Both stores keep what every store owes.
 use lib.IntN.{ℤ}
-use lib.ListN.{getD, length, length-take}
+use lib.ListN.{length, length-take}
 use mathlib.Core.Bool.{Bool, cond, false, true}
 use mathlib.Core.List.{List}
 use mathlib.Core.Logic.{⊎-elim}
 use mathlib.Core.Path.{_≡_, _∙_, ap, fun-ext, refl, sym}
 use native.Mathlib.Omega.{arith}
-use Prim.Native.Nat.{ℕ, _<_, _≤_}
+use Prim.Native.Nat.{ℕ, _≤_}
 use Rattle.std.proofs.shelf.Filters.{length-kept-by-both}
-use Rattle.std.proofs.shelf.Tests.{cases-bool, cond-false, cond-true, eqb-true, false≢true}
+use Rattle.std.proofs.shelf.Tests.{cases-bool, cond-false, eqb-true, false≢true}
 use Rattle.std.specs.declared.option.Option.{Option}
 use Rattle.std.specs.declared.option.Option.the-variants.{None, Some}
 use Rattle.std.specs.Options.{isSome, mapped}

@@ -1,12 +1,10 @@
 -- Sums and searches over the numbers below n, for any n.
-use lib.Dec.{eqb}
-use mathlib.Core.Bool.{Bool, _||_, false, true}
 use mathlib.Core.Logic.{⊎-elim}
 use mathlib.Core.Path.{_≡_, ap, refl}
 use native.Mathlib.Omega.{arith}
 use Prim.Native.Nat.{ℕ, _+_, _<_, _≤_, suc, zero}
 use Rattle.std.proofs.shelf.Tests.{cases-eq}
-use Rattle.store.specs.Meaning.{any-below, sum-below}
+use Rattle.store.specs.Meaning.{sum-below}
 
 pub sum-zero : (f : ℕ → ℕ) → ((k : ℕ) → f k ≡ 0) → (n : ℕ) → sum-below f n ≡ 0
 unfolding sum-below

@@ -1,11 +1,9 @@
 // A store that writes into the caller's slice at once, and keeps what stood there before.
 ghost use denote.Ref.{name, now};
-ghost use lib.IntN.{ℤ};
-ghost use lib.ListN.{length};
 ghost use mathlib.Core.Bool.{false, true};
 ghost use mathlib.Core.List.{[], _∷_};
 ghost use mathlib.Core.Path.{_≡_};
-ghost use Prim.Native.Nat.{ℕ, _≤_};
+ghost use Prim.Native.Nat.{_≤_};
 ghost use Rattle.store.specs.Entries.{apart, bounded, entries, same-item, size-of};
 ghost use Rattle.store.specs.Meaning.{nothing};
 ghost use Rattle.store.specs.Slices.{committed-behind, in-place-slice, items, pending-in, rest};
@@ -127,6 +125,7 @@ pub impl Store for InPlace<'_> as InPlaceStore {
         }
         match on(self.images.list(), item) {
             None => {
+                // The share is the whole room, so the room alone decides.
                 if self.images.len == Self::ROOM {
                     return Err(refusal(Reason::NoRoom));
                 }

@@ -1,7 +1,5 @@
 // A store that keeps pending writes in a workspace, and touches the caller's slice only when it publishes.
 ghost use denote.Ref.{name, now};
-ghost use lib.IntN.{ℤ};
-ghost use lib.ListN.{length};
 ghost use mathlib.Core.Bool.{true};
 ghost use mathlib.Core.List.{[], _∷_};
 ghost use mathlib.Core.Path.{_≡_};

@@ -1,10 +1,9 @@
 // The entries that a store keeps beside its slice, in a fixed array.
-ghost use lib.IntN.{ℤ};
 ghost use lib.ListN.{getD, length};
 ghost use mathlib.Core.Bool.{true};
 ghost use mathlib.Core.List.{[], _++_, _∷_};
 ghost use mathlib.Core.Path.{_≡_};
-ghost use Prim.Native.Nat.{ℕ, _+_, _<_, _≤_};
+ghost use Prim.Native.Nat.{_+_, _<_, _≤_};
 ghost use Rattle.std.specs.declared.option.Option.the-variants.{None, Some};
 ghost use Rattle.std.specs.Options.{Cases as BySome};
 ghost use Rattle.std.specs.shelf.Lists.{kept-by};

@@ -10,7 +10,7 @@ use Rattle.store.proofs.Overlaid.{slice-holds, slice-still}
 use Rattle.store.specs.Entries.{entries}
 use Rattle.store.specs.Meaning.{Place, Writes, nothing}
 use Rattle.store.specs.Rehearsals.{accepted}
-use Rattle.store.specs.Slices.{committed-behind, in-place-slice, items, pending-in, rest}
+use Rattle.store.specs.Slices.{in-place-slice, items, pending-in, rest}
 
 pub returns : need.returns
 returns c =

@@ -1,7 +1,5 @@
 use native.Mathlib.Omega.{arith}
-use mathlib.Core.Path.{_≡_, _∙_, ap}
-use lib.ListN.{getD}
-use mathlib.Core.Bool.{false, true}
+use mathlib.Core.Path.{_∙_, ap}
 use Rattle.std.proofs.shelf.Filters.{length-kept-by-more}
 use Rattle.std.proofs.shelf.Lists.{take-all}
 use Rattle.std.proofs.shelf.Ways.{tells}

@@ -1,8 +1,7 @@
-use lib.ListN.{getD, length}
+use lib.ListN.{getD}
 use mathlib.Core.Bool.{false, true}
 use mathlib.Core.Path.{_≡_, _∙_, ap, sym}
 use native.Mathlib.Omega.{arith}
-use Prim.Native.Nat.{_<_}
 use Rattle.std.proofs.shelf.Lists.{at-drop-all}
 use Rattle.std.proofs.shelf.Ways.{tells}
 use Rattle.std.specs.Options.{mapped}

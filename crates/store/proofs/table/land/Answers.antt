@@ -1,9 +1,8 @@
 use borrow.Author.Needs.{needs}
 use lib.IntN.{ℤ}
 use lib.ListN.{drop, getD, set}
-use mathlib.Core.Bool.{cond}
 use mathlib.Core.List.{List}
-use mathlib.Core.Path.{_≡_, _∙_, ap, sym}
+use mathlib.Core.Path.{_∙_, ap, sym}
 use mir.Syntax.{w32}
 use mir.Val.{SFits}
 use native.Mathlib.Omega.{arith}
@@ -14,7 +13,7 @@ use Rattle.std.proofs.shelf.Tests.{cond-false, cond-true, eq-eqb, ne-eqb}
 use Rattle.store.proofs.Scans.{bounded-at, landed-more}
 use Rattle.store.proofs.table.land.Needs as need
 use Rattle.store.proofs.table.land.Needs.{else-e-t, then-e-t}
-use Rattle.store.specs.Entries.{blank, landed, owned}
+use Rattle.store.specs.Entries.{blank, landed}
 
 pub index-values-e : need.index-values-e
 index-values-e c = omega (arith, bounded-at _ (c .args .list .now) (c .loop-k .k) (c .pre) (c .loop-k-test .taken) .1)

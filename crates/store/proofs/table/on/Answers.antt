@@ -1,6 +1,4 @@
-use lib.ListN.{getD}
-use mathlib.Core.Bool.{false, true}
-use mathlib.Core.Path.{_≡_, _∙_, sym}
+use mathlib.Core.Path.{_∙_, sym}
 use Rattle.std.proofs.shelf.Lists.{at-drop-all}
 use Rattle.std.proofs.shelf.Tests.{eq-eqb, ne-eqb}
 use Rattle.store.proofs.Scans.{first-at, first-more}

@@ -1,7 +1,5 @@
-use lib.IntN.{ℤ, pos}
-use lib.ListN.{getD}
-use mathlib.Core.List.{List, []}
-use mathlib.Core.Path.{_≡_, _∙_, ap, fun-ext, refl}
+use mathlib.Core.List.{List}
+use mathlib.Core.Path.{_∙_, ap, refl}
 use Rattle.store.proofs.in_place.InPlace.open.Needs as need
 use Rattle.store.proofs.Openings.{laid-nothing}
 use Rattle.store.specs.declared.table.Entry.{Entry}

@@ -1,5 +1,5 @@
 use borrow.Author.Needs.{needs}
-use lib.IntN.{ℤ, pos}
+use lib.IntN.{pos}
 use lib.ListN.{getD}
 use mathlib.Core.Path.{_≡_, _∙_, ap, sym}
 use mir.Syntax.{w32}

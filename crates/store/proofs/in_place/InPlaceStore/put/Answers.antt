@@ -1,20 +1,19 @@
 use denote.Ref.{RefT, name}
-use lib.Dec.{eqb}
 use lib.IntN.{ℤ, pos}
 use lib.ListN.{getD, length, set}
-use mathlib.Core.Bool.{false, true}
+use mathlib.Core.Bool.{false}
 use mathlib.Core.List.{List, [], _++_, _∷_}
 use mathlib.Core.Path.{_≡_, _∙_, ap, refl, sym}
 use mir.Syntax.{w32}
 use mir.Val.{SFits, ofZ, toZ}
 use native.Mathlib.Omega.{arith}
 use borrow.Author.Needs.{needs}
-use Prim.Native.Nat.{ℕ, _<_}
-use Rattle.std.proofs.shelf.Lists.{drop-set-lt, length-set}
+use Prim.Native.Nat.{_<_}
+use Rattle.std.proofs.shelf.Lists.{drop-set-lt}
 use Rattle.std.proofs.shelf.Signed.{toZ-ofZ}
 use Rattle.std.proofs.shelf.Tests.{eq-eqb}
 use Rattle.std.specs.declared.option.Option.the-variants.{None, Some}
-use Rattle.std.specs.declared.result.Result.the-variants.{Err, Ok}
+use Rattle.std.specs.declared.result.Result.the-variants.{Err}
 use Rattle.store.proofs.Images.{again-behind, again-pending, first-behind, first-pending, length-behind}
 use Rattle.store.proofs.in_place.InPlaceStore.put.Needs as need
 use Rattle.store.proofs.in_place.InPlaceStore.put.Needs.{in-None·else-self-eq-ROOM, in-Some·else-self-k}

@@ -1,6 +1,5 @@
-use mathlib.Core.Path.{_≡_, _∙_, ap, refl}
+use mathlib.Core.Path.{_∙_, ap, refl}
 use native.Mathlib.Omega.{arith}
-use Prim.Native.Nat.{ℕ, _≤_}
 use Rattle.store.proofs.Kept.{apart-kept, bounded-kept, count-kept}
 use Rattle.store.proofs.private.PrivateStore.discard.Needs as need
 use Rattle.store.proofs.Workspace.{found-kept}

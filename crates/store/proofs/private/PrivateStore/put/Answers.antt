@@ -5,11 +5,11 @@ use mathlib.Core.List.{List, [], _++_, _∷_}
 use mathlib.Core.Path.{_≡_, _∙_, ap, refl, subst, sym}
 use mir.Syntax.{w32}
 use native.Mathlib.Omega.{arith}
-use Prim.Native.Nat.{ℕ, _<_, _≤_}
+use Prim.Native.Nat.{_<_}
 use Rattle.records.specs.declared.refusal.Reason.the-variants.{NoRoom}
 use Rattle.std.proofs.shelf.Signed.{toZ-ofZ}
 use Rattle.std.specs.declared.option.Option.the-variants.{None, Some}
-use Rattle.std.specs.declared.result.Result.the-variants.{Err, Ok}
+use Rattle.std.specs.declared.result.Result.the-variants.{Err}
 use Rattle.store.proofs.Kept.{apart-push, apart-revalued, bounded-push, bounded-revalued, count-revalued}
 use Rattle.store.proofs.Landing.{length-items}
 use Rattle.store.proofs.private.PrivateStore.put.Needs as need

@@ -1,6 +1,4 @@
 use lib.ListN.{getD, length}
-use mathlib.Core.Bool.{false, true}
-use mathlib.Core.Path.{_≡_}
 use native.Mathlib.Omega.{arith}
 use Prim.Native.Nat.{_<_}
 use Rattle.std.proofs.shelf.Filters.{keeping-more-no, keeping-more-set}
@@ -8,7 +6,7 @@ use Rattle.std.proofs.shelf.Lists.{getD-default}
 use Rattle.std.proofs.shelf.Ways.{tells}
 use Rattle.store.proofs.table.Table.forget.Needs as need
 use Rattle.store.proofs.table.Table.forget.Needs.{else-e-t, then-e-t}
-use Rattle.store.specs.Entries.{blank, others}
+use Rattle.store.specs.Entries.{blank}
 
 pub loop-i-again : need.loop-i-again
 loop-i-again c =
