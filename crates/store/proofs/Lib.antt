@@ -1,0 +1,11 @@
+pub mod Images
+pub mod Kept
+pub mod Landing
+pub mod Openings
+pub mod Overlaid
+pub mod Puts
+pub mod Refusals
+pub mod Rehearsed
+pub mod Replies
+pub mod Scans
+pub mod Workspace
