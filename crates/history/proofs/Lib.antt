@@ -1,0 +1,10 @@
+pub mod Facts
+pub mod Tables
+pub mod Replay
+pub mod Serially
+pub mod Waiting
+pub mod Orders
+pub mod Histories
+pub mod Standing
+pub mod Granted
+pub mod Going

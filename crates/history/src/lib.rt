@@ -1,0 +1,2 @@
+//! Runs of the scheduler, and the law that every run keeps.
+pub mod run;

@@ -1,0 +1,17 @@
+pub mod Members
+pub mod Opens
+pub mod Locks
+pub mod Blocking
+pub mod Orderly
+pub mod Rising
+pub mod Bit
+pub mod ItemSet
+pub mod Scans
+pub mod Freshness
+pub mod Circling
+pub mod Reaching
+pub mod Edging
+pub mod Rounds
+pub mod Gathering
+pub mod Gathered
+pub mod Blockwise
