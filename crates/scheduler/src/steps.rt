@@ -28,6 +28,7 @@ use crate::tables::BEGINS;
 use crate::tables::Tables;
 use crate::transaction::Ask;
 use crate::transaction::State;
+use crate::transaction::Transaction;
 use crate::transaction_array::OPEN;
 use records::refusal::Layer;
 use records::refusal::Reason;
@@ -87,6 +88,20 @@ impl<S: Store, R: LockRule> Scheduler<S, R> {
             tables: _,
         } = self;
         store
+    }
+
+    /// The open transactions, in the order of their opening.
+    pub fn transactions(&self) -> &[Transaction]
+        ensures { λ r. ⌜ now r ≡ ledger-of (now (self .entry) .tables) .opens ⌝ }
+    {
+        self.tables.open.list()
+    }
+
+    /// The store.
+    pub fn store(&self) -> &S
+        ensures { λ r. ⌜ now r ≡ now (self .entry) .store ⌝ }
+    {
+        &self.store
     }
 
     /// A read that nobody blocks.
