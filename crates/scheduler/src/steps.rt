@@ -97,13 +97,6 @@ impl<S: Store, R: LockRule> Scheduler<S, R> {
         self.tables.open.list()
     }
 
-    /// The store.
-    pub fn store(&self) -> &S
-        ensures { λ r. ⌜ now r ≡ now (self .entry) .store ⌝ }
-    {
-        &self.store
-    }
-
     /// A read that nobody blocks.
     fn grant_read(&mut self, i: usize, t: u16, item: u16) -> Result<Reply, Refusal>
         requires at { ⌜ At (open-list (now self .tables .«open»)) t i ⌝ }
@@ -233,7 +226,7 @@ impl<S: Store, R: LockRule> Scheduler<S, R> {
         ensures step { λ r. ⌜ Stepped None r (record { ledger = ledger-of (now (self .entry) .tables); committed = committed (now (self .entry) .store); pending = pending (now (self .entry) .store) }) (record { ledger = ledger-of (now (self .exit) .tables); committed = committed (now (self .exit) .store); pending = pending (now (self .exit) .store) }) ⌝ }
         ensures same { λ _. ⌜ (now (self .exit) .rule ≡ now (self .entry) .rule) × (now (self .exit) .refusal ≡ now (self .entry) .refusal) × (place (now (self .exit) .store) ≡ place (now (self .entry) .store)) ⌝ }
     {
-        if self.tables.open.list().len() >= OPEN {
+        if self.transactions().len() >= OPEN {
             return Err(refusal(Reason::TooManyOpen));
         }
         if self.tables.begins >= BEGINS {
