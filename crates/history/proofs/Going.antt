@@ -56,8 +56,9 @@ sum-none : (f : ℕ → ℕ) (n i : ℕ) → sum-below f n ≡ 0 → i < n → f
 unfolding sum-below
 sum-none f zero i e l = absurd (omega arith)
 sum-none f (suc n) i e l = elim (cases-eq i n) [
-    inl q ↦ subst (λ (m : ℕ). f m ≡ 0) (sym q) (omega arith)
-  | inr q ↦ sum-none f n i (omega arith) (omega arith) ]
+  | inl q ↦ subst (λ (m : ℕ). f m ≡ 0) (sym q) (omega arith)
+  | inr q ↦ sum-none f n i (omega arith) (omega arith)
+]
 
 -- no write is pending where none is held
 pub none-held : (private : Bool) (room share : ℕ) (cs : List ℤ) (p : Writes) → Sound private room share cs p → held-count p (length cs) ≡ 0 → (t i : ℕ) → p t i ≡ None
@@ -92,31 +93,37 @@ pair-parts ok private n e = go (ok Write Write && not private) (eqb n 0) refl re
 
 pub going-none : (ok : Rule) (k : Terms) (vs : List ℤ) (p : Writes) → Sound (k .private) (k .room) (k .share) vs p → (refusal : Option Refusal) → refusal ≡ pair-refusal ok (k .private) (held-count p (length vs)) → Going ok k refusal vs p [] empty vs p
 going-none ok k vs p S None e = record {
-  served = tt; tables = refl; values = refl; writes = refl;
+  served = tt;
+  tables = refl;
+  values = refl;
+  writes = refl;
   stands = standing-none ok (k .private) vs p (none-held (k .private) (k .room) (k .share) vs p S (pair-parts ok (k .private) (held-count p (length vs)) (sym e) .1));
 }
 going-none ok k vs p S (Some x) e = record {
-  served = tt; tables = refl; values = refl; writes = refl;
+  served = tt;
+  tables = refl;
+  values = refl;
+  writes = refl;
   stands = standing-none ok (k .private) vs (λ t i. None) (λ t i. refl);
 }
 
 module _ (ok : Rule) (law : ok Read Write ≡ false) (k : Terms) (vs : List ℤ) (p : Writes) (q : Request) (a : Answer) where
   stands-next : (refusal : Option Refusal) → refusal ≡ pair-refusal ok (k .private) (held-count p (length vs)) → (r : Run) (ws : List ℤ) (p′ : Writes) → Stands refusal ok (k .private) vs r ws p′ → Answers ok k refusal (ledger r) ws p′ q a
-    → Stands refusal ok (k .private) vs (record { call = q; answer = a } ∷ r) (committed-after a ws p′) (pending-after (asked (ledger r) q) a p′)
+      → Stands refusal ok (k .private) vs (record { call = q; answer = a } ∷ r) (committed-after a ws p′) (pending-after (asked (ledger r) q) a p′)
   stands-next None e r ws p′ S h = standing-next ok law (k .private) (pair-parts ok (k .private) (held-count p (length vs)) (sym e) .0) vs r ws p′ S q a (facts ok k (ledger r) ws p′ q a h)
   stands-next (Some x) e r ws p′ S h =
       subst (λ (b : Answer). Standing ok (k .private) vs (record { call = q; answer = b } ∷ r) (committed-after b ws p′) (λ t i. None)) (sym h) (standing-err S q x)
 
   pub going-next : (refusal : Option Refusal) → refusal ≡ pair-refusal ok (k .private) (held-count p (length vs)) → (r : Run) (s n : Situation) → Going ok k refusal vs p r (s .ledger) (s .committed) (s .pending)
-    → Answers ok k refusal (s .ledger) (s .committed) (s .pending) q a → Stepped (asked (s .ledger) q) a s n → Going ok k refusal vs p (record { call = q; answer = a } ∷ r) (n .ledger) (n .committed) (n .pending)
+      → Answers ok k refusal (s .ledger) (s .committed) (s .pending) q a → Stepped (asked (s .ledger) q) a s n → Going ok k refusal vs p (record { call = q; answer = a } ∷ r) (n .ledger) (n .committed) (n .pending)
   going-next refusal e r s n G h d = record {
     served = (at-ledger, G .served);
     tables = d .ledger ∙ ap (λ (M : Ledger). fed M (asked M q) a) (G .tables);
     values = d .committed ∙ ap₂ (committed-after a) (G .values) (G .writes);
     writes = d .pending ∙ ap₂ (λ (M : Ledger) (w : Writes). pending-after (asked M q) a w) (G .tables) (G .writes);
     stands =
-      subst (λ (w : List ℤ). Stands refusal ok (k .private) vs (record { call = q; answer = a } ∷ r) w (n .pending)) (sym (d .committed))
-      (subst (λ (w : Writes). Stands refusal ok (k .private) vs (record { call = q; answer = a } ∷ r) (committed-after a (s .committed) (s .pending)) w)
+        subst (λ (w : List ℤ). Stands refusal ok (k .private) vs (record { call = q; answer = a } ∷ r) w (n .pending)) (sym (d .committed))
+        (subst (λ (w : Writes). Stands refusal ok (k .private) vs (record { call = q; answer = a } ∷ r) (committed-after a (s .committed) (s .pending)) w)
         (sym (d .pending ∙ ap (λ (M : Ledger). pending-after (asked M q) a (s .pending)) (G .tables)))
         (stands-next refusal e r (s .committed) (s .pending) (G .stands) (subst (λ (M : Ledger). Answers ok k refusal M (s .committed) (s .pending) q a) (G .tables) h)));
   }
@@ -143,8 +150,9 @@ ran ok k refusal vs p qs as′ L ws p′ g = record {
 }
 
 pub going-push : (ok : Rule) → ok Read Write ≡ false → (k : Terms) (vs : List ℤ) (p : Writes) (refusal : Option Refusal) → refusal ≡ pair-refusal ok (k .private) (held-count p (length vs)) → (qs : List Request) (as′ : List Answer) (q : Request) (a : Answer) (s n : Situation)
-  → GoingOn ok k refusal vs p qs as′ (s .ledger) (s .committed) (s .pending) → Answers ok k refusal (s .ledger) (s .committed) (s .pending) q a → Stepped (asked (s .ledger) q) a s n
-  → GoingOn ok k refusal vs p (qs ++ q ∷ []) (as′ ++ a ∷ []) (n .ledger) (n .committed) (n .pending)
-going-push ok law k vs p refusal e qs as′ q a s n g h d =
-    ( length-push as′ a ∙ ap (λ (m : ℕ). m + 1) (g .0) ∙ sym (length-push qs q)
-    , subst (λ (r : Run). Going ok k refusal vs p r (n .ledger) (n .committed) (n .pending)) (sym (onto-push [] qs as′ q a (g .0))) (going-next ok law k vs p q a refusal e (run-of qs as′) s n (g .1) h d))
+    → GoingOn ok k refusal vs p qs as′ (s .ledger) (s .committed) (s .pending) → Answers ok k refusal (s .ledger) (s .committed) (s .pending) q a → Stepped (asked (s .ledger) q) a s n
+    → GoingOn ok k refusal vs p (qs ++ q ∷ []) (as′ ++ a ∷ []) (n .ledger) (n .committed) (n .pending)
+going-push ok law k vs p refusal e qs as′ q a s n g h d = (
+  length-push as′ a ∙ ap (λ (m : ℕ). m + 1) (g .0) ∙ sym (length-push qs q),
+  subst (λ (r : Run). Going ok k refusal vs p r (n .ledger) (n .committed) (n .pending)) (sym (onto-push [] qs as′ q a (g .0))) (going-next ok law k vs p q a refusal e (run-of qs as′) s n (g .1) h d),
+)

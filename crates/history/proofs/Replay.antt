@@ -31,9 +31,6 @@ laid-at row (v ∷ vs) zero d h = refl
 laid-at row (v ∷ vs) (suc i) d h = laid-at (λ j. row (suc j)) vs i d (omega arith)
 
 -- one value more in the row
-over : (ℕ → Option ℤ) → ℕ → ℤ → ℕ → Option ℤ
-over row i v j = cond (eqb j i) (Some v) (row j)
-
 pub set-laid : (row : ℕ → Option ℤ) (vs : List ℤ) (i : ℕ) (v : ℤ) → set (laid row vs) i v ≡ laid (λ j. cond (eqb j i) (Some v) (row j)) vs
 set-laid row [] i v = refl
 set-laid row (c ∷ vs) zero v =

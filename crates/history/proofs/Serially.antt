@@ -352,9 +352,6 @@ pub replayed-next : (ok : Rule) (r : Run) (vs cs : List ℤ) (p : Writes) → Ke
     → Replayed (ledger (e ∷ r)) (acts (e ∷ r)) (commits (e ∷ r)) vs (committed-after (e .answer) cs p) (pending-after (asked (ledger r) (e .call)) (e .answer) p)
 replayed-next ok r vs cs p K R e = go (e .answer)
   where
-    q : Request
-    q = e .call
-
     go : (a : Answer) → Facts ok (ledger r) cs p (e .call) a
         → Replayed (feed (ledger r) (e .call) a) (λ t. act t (asked (ledger r) (e .call)) a ++ acts r t) (commit-in a ++ commits r) vs (committed-after a cs p) (pending-after (asked (ledger r) (e .call)) a p)
     go (Ok (Opened t)) h = opened ok (ledger r) (acts r) (commits r) vs cs p K R (e .call) t h

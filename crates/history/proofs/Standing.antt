@@ -84,9 +84,6 @@ put-writes (put j v ∷ as′) i m = elim (cases-bool (eqb i j)) [
 ]
 
 module _ (ok : Rule) (law : ok Read Write ≡ false) (private : Bool) (pair : private ≡ false → ok Write Write ≡ false) (L : Ledger) (K : Kept L) (q : Request) where
-  Own : Ledger → ℕ → ℕ → Type 0
-  Own M t i = (private ≡ false) × (holds t i Write (M .locks) ≡ true)
-
   module _ (h : List Event) (T : Told (Locked private L) L h) where
     opened-told : (t : ℕ) → t ≡ L .begins + 1 → Told (Locked private (feed L q (Ok (Opened t)))) (feed L q (Ok (Opened t))) h
     opened-told t e = told-grows g T
@@ -113,9 +110,6 @@ module _ (ok : Rule) (law : ok Read Write ≡ false) (private : Bool) (pair : pr
     value-told : (t i : ℕ) (v : ℤ) → IsOpen L t → blockers ok (L .locks) t (ask-read i) ≡ [] → Told (Locked private (feed L q (Ok (Value t i v)))) (feed L q (Ok (Value t i v))) (cond (holds t i Write (L .locks)) [] (read t i ∷ []) ++ h)
     value-told t i v o free = go (holds t i Write (L .locks)) refl
       where
-        M : Ledger
-        M = feed L q (Ok (Value t i v))
-
         g : Grows (Locked private L) (Locked private (feed L q (Ok (Value t i v)))) L (feed L q (Ok (Value t i v)))
         g = record {
           own = λ u j x. (x .0, read-writers t i (L .locks) u j ∙ x .1);
@@ -213,9 +207,6 @@ module _ (ok : Rule) (law : ok Read Write ≡ false) (private : Bool) (pair : pr
       → When private ((is : List ℕ) × Arranged (acts r t) is × (es ≡ commit t ∷ map (wrote t) is)) (es ≡ commit t ∷ []) → Told (Locked private (struck t (ledger r))) (struck t (ledger r)) (es ++ h)
   committed-shown t o free h es T = go private refl
     where
-      Goal : Type 0
-      Goal = Told (Locked private (struck t (ledger r))) (struck t (ledger r)) (es ++ h)
-
       go : (b : Bool) → private ≡ b → When b ((is : List ℕ) × Arranged (acts r t) is × (es ≡ commit t ∷ map (wrote t) is)) (es ≡ commit t ∷ []) → Told (Locked private (struck t (ledger r))) (struck t (ledger r)) (es ++ h)
       go true e w =
           subst (λ (xs : List Event). Told (Locked private (struck t (ledger r))) (struck t (ledger r)) (xs ++ h)) (sym (w .2))

@@ -87,9 +87,6 @@ module _ (ok : Rule) (L : Ledger) (K : Kept L) (G : Grounded ok L) (q : Request)
 
   -- t is active, and may have one lock more, at the end
   module _ (t : ℕ) (o : IsOpen L t) (ls : List Lock) (grown : (ls ≡ L .locks) ⊎ ((l : Lock) × (l .owner ≡ t) × (ls ≡ L .locks ++ l ∷ []))) where
-    next : Ledger
-    next = record { begins = L .begins; opens = restated t Active (L .opens); locks = ls }
-
     granted-grounded : Grounded ok (record { begins = L .begins; opens = restated t Active (L .opens); locks = ls })
     granted-grounded u = more-for _ _ t (λ v x. idle v x) (λ w v x. old w v x) (G u)
       where
@@ -137,9 +134,6 @@ module _ (ok : Rule) (L : Ledger) (K : Kept L) (G : Grounded ok L) (q : Request)
   waits-grounded : (t b : ℕ) (a : Ask) → IsOpen L t → asked L q ≡ Some a → ((c : ℕ) → In c (blockers ok (L .locks) t a) → Chain ok L c t → ⊥) → Grounded ok (feed L q (Ok (Wait t b)))
   waits-grounded t b a o wants clear u = subst (Grounded ok) (ap (λ (x : Option Ask). record { begins = L .begins; opens = waiting x t (L .opens); locks = L .locks }) (sym wants)) now-grounded u
     where
-      then : Ledger
-      then = record { begins = L .begins; opens = restated t (Waiting a) (L .opens); locks = L .locks }
-
       same : (w v : ℕ) → (w ≡ t → ⊥) → Waits ok (record { begins = L .begins; opens = restated t (Waiting a) (L .opens); locks = L .locks }) w v → Waits ok L w v
       same w v n x = record { ask = x .ask; state = sym (restated-other w t (Waiting a) (L .opens) n) ∙ x .state; blocker = x .blocker }
 
@@ -169,9 +163,6 @@ module _ (ok : Rule) (L : Ledger) (K : Kept L) where
     where
       held : (v : ℕ) → Waits ok L t v → IsOpen L v
       held v w = let b = blocker-holds ok t v (L .locks) (w .ask) (w .blocker) in subst (IsOpen L) (sym (b .2)) (K .owned (b .0) (b .1))
-
-      Found : Type 0
-      Found = (z : ℕ) × (IsOpen L z) × ((u : ℕ) → Waits ok L z u → ⊥)
 
       by : (a : Ask) (vs : List ℕ) → state-of t (L .opens) ≡ Some (Waiting a) → blockers ok (L .locks) t a ≡ vs → ((v : ℕ) → Waits ok L t v → (z : ℕ) × (IsOpen L z) × ((u : ℕ) → Waits ok L z u → ⊥)) → (z : ℕ) × (IsOpen L z) × ((u : ℕ) → Waits ok L z u → ⊥)
       by a [] e b rest = (t, o, λ u w. none-in (subst (λ (d : Ask). In u (blockers ok (L .locks) t d)) (waiting-same (sym (w .state) ∙ e)) (w .blocker)))

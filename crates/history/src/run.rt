@@ -4,7 +4,7 @@ ghost use mathlib.Core.Path.{_≡_};
 ghost use Rattle.std.specs.Of.Vec.{vec-items};
 ghost use Rattle.std.specs.Vec.{made};
 ghost use Rattle.store.specs.Meaning.{held-count};
-ghost use Rattle.scheduler.specs.Steps.{pair-refusal};
+ghost use Rattle.scheduler.specs.Steps.{pair-refusal, terms};
 ghost use Rattle.scheduler.specs.Tables.{ledger-of};
 ghost use Rattle.history.specs.Ran.{Ran};
 use records::refusal::Refusal;
@@ -25,8 +25,13 @@ pub struct Finished<S: Store, R: LockRule> {
 
 /// Opens a scheduler over the store and the rule, and makes the calls one after another. The memory for the answers is
 /// taken first: where there is none, no call is made.
-pub fn run<S: Store + Drop, R: LockRule + Drop>(heap: Global, store: S, rule: R, calls: &[Request]) -> Result<Finished<S, R>, AllocError>
-    ensures { λ r. ⌜ made r (λ f. Ran (allows rule) (record { private = private; room = room; share = share }) (pair-refusal (allows rule) private (held-count (pending store) (length (committed store)))) (committed store) (pending store) (now (calls .entry)) (vec-items (f .answers)) (ledger-of (f .scheduler .tables)) (committed (f .scheduler .store)) (pending (f .scheduler .store))) ⌝ }
+pub fn run<S: Store + Drop, R: LockRule + Drop>(
+    heap: Global,
+    store: S,
+    rule: R,
+    calls: &[Request],
+) -> Result<Finished<S, R>, AllocError>
+    ensures { λ r. ⌜ made r (λ f. Ran (allows rule) (terms private room share) (pair-refusal (allows rule) private (held-count (pending store) (length (committed store)))) (committed store) (pending store) (now (calls .entry)) (vec-items (f .answers)) (ledger-of (f .scheduler .tables)) (committed (f .scheduler .store)) (pending (f .scheduler .store))) ⌝ }
 {
     let mut answers = Vec::with_capacity(heap, calls.len())?;
     let mut scheduler = Scheduler::open(store, rule);

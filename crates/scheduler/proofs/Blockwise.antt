@@ -61,8 +61,8 @@ module _ (p q r : ℕ → Bool) (split : (x : ℕ) → r x ≡ (p x || q x)) whe
   written-split u t ls (m ∷ ms) =
       ap₂ (λ (x y : Bool). x || y)
       (ap (λ (b : Bool). is-lock t (m .item) Write m && (b && holds u (m .item) Read ls)) (split (m .item))
-        ∙ ap (λ (b : Bool). is-lock t (m .item) Write m && b) (split-and (p (m .item)) (q (m .item)) (holds u (m .item) Read ls))
-        ∙ and-or (is-lock t (m .item) Write m) (p (m .item) && holds u (m .item) Read ls) (q (m .item) && holds u (m .item) Read ls))
+      ∙ ap (λ (b : Bool). is-lock t (m .item) Write m && b) (split-and (p (m .item)) (q (m .item)) (holds u (m .item) Read ls))
+      ∙ and-or (is-lock t (m .item) Write m) (p (m .item) && holds u (m .item) Read ls) (q (m .item) && holds u (m .item) Read ls))
       (written-split u t ls ms)
       ∙ cross (is-lock t (m .item) Write m && (p (m .item) && holds u (m .item) Read ls)) (is-lock t (m .item) Write m && (q (m .item) && holds u (m .item) Read ls)) (written-in p u t ls ms) (written-in q u t ls ms)
 
@@ -77,10 +77,12 @@ module _ (p q r : ℕ → Bool) (split : (x : ℕ) → r x ≡ (p x || q x)) whe
 
 block-split : (w x : ℕ) → before-block (w + 1) x ≡ (before-block w x || in-block w x)
 block-split w x = elim (cases-order (x / 1024) w) [
-    inl e ↦ lt-ltb (x / 1024) (w + 1) (omega arith) ∙ sym (ap (λ (b : Bool). before-block w x || b) (eq-eqb (x / 1024) w e) ∙ or-right (before-block w x) true refl)
+  | inl e ↦ lt-ltb (x / 1024) (w + 1) (omega arith) ∙ sym (ap (λ (b : Bool). before-block w x || b) (eq-eqb (x / 1024) w e) ∙ or-right (before-block w x) true refl)
   | inr s ↦ elim s [
-      inl l ↦ lt-ltb (x / 1024) (w + 1) (omega arith) ∙ sym (or-left (before-block w x) (in-block w x) (lt-ltb (x / 1024) w l))
-    | inr l ↦ le-ltb (x / 1024) (w + 1) (omega arith) ∙ sym (ap₂ (λ (a b : Bool). a || b) (le-ltb (x / 1024) w (omega arith)) (ne-eqb (x / 1024) w (λ e. omega arith))) ] ]
+    | inl l ↦ lt-ltb (x / 1024) (w + 1) (omega arith) ∙ sym (or-left (before-block w x) (in-block w x) (lt-ltb (x / 1024) w l))
+    | inr l ↦ le-ltb (x / 1024) (w + 1) (omega arith) ∙ sym (ap₂ (λ (a b : Bool). a || b) (le-ltb (x / 1024) w (omega arith)) (ne-eqb (x / 1024) w (λ e. omega arith)))
+  ]
+]
 
 -- the rows so far have the waits of the blocks before w
 abbrev pub Upto : Rule → List Transaction → List Lock → ℕ → List Places → Type 0
@@ -90,8 +92,9 @@ Upto ok os ls w rows = (a b : ℕ) → a < 64 → b < 64 → has (getD rows b no
 module _ (q : ℕ → Bool) (ok : Rule) (ls : List Lock) (P : Type 0) (each : (l : Lock) → In l ls → q (l .item) ≡ true → P) where
   barred-so : (u x : ℕ) (k : Kind) → q x ≡ true → bars-with ok ls u x k ≡ true → P
   barred-so u x k e h = elim (or-cases (not (ok k Read) && holds u x Read ls) (not (ok k Write) && holds u x Write ls) h) [
-      inl a ↦ each _ (holds-in u x Read ls (and-parts (not (ok k Read)) (holds u x Read ls) a .1)) e
-    | inr a ↦ each _ (holds-in u x Write ls (and-parts (not (ok k Write)) (holds u x Write ls) a .1)) e ]
+    | inl a ↦ each _ (holds-in u x Read ls (and-parts (not (ok k Read)) (holds u x Read ls) a .1)) e
+    | inr a ↦ each _ (holds-in u x Write ls (and-parts (not (ok k Write)) (holds u x Write ls) a .1)) e
+  ]
 
   asks-so : (u t : ℕ) (s : State) → asks q ok ls u t s ≡ true → P
   asks-so u t Active h = absurd (both-ways false refl h)
@@ -107,8 +110,9 @@ module _ (q : ℕ → Bool) (ok : Rule) (ls : List Lock) (P : Type 0) (each : (l
   written-so : (u t : ℕ) (ms : List Lock) → ((l : Lock) → In l ms → In l ls) → written-in q u t ls ms ≡ true → P
   written-so u t [] i h = absurd (both-ways false refl h)
   written-so u t (m ∷ ms) i h = elim (or-cases (is-lock t (m .item) Write m && (q (m .item) && holds u (m .item) Read ls)) (written-in q u t ls ms) h) [
-      inl a ↦ each m (i m first) (and-parts (q (m .item)) (holds u (m .item) Read ls) (and-parts (is-lock t (m .item) Write m) (q (m .item) && holds u (m .item) Read ls) a .1) .0)
-    | inr a ↦ written-so u t ms (λ l j. i l (later j)) a ]
+    | inl a ↦ each m (i m first) (and-parts (q (m .item)) (holds u (m .item) Read ls) (and-parts (is-lock t (m .item) Write m) (q (m .item) && holds u (m .item) Read ls) a .1) .0)
+    | inr a ↦ written-so u t ms (λ l j. i l (later j)) a
+  ]
 
   commits-so : (u t : ℕ) (s : State) → commits q ls ls u t s ≡ true → P
   commits-so u t Active h = absurd (both-ways false refl h)
@@ -139,7 +143,7 @@ module _ (ok : Rule) (os : List Transaction) (ls : List Lock) where
       inv a b la lb
       ∙ nothing-more (between os (drawn (before-block w) ok ls) b a)
       ∙ ap (λ (x : Bool). between os (drawn (before-block w) ok ls) b a || x) (sym (between-none os (drawn (in-block w) ok ls) b a (λ u t s. none-of _ (drawn-so (in-block w) ok ls ⊥ (λ l m h.
-          both-ways (has set′ w) no′ (subst (λ (n : ℕ). has set′ n ≡ true) (eqb-true (l .item / 1024) w h) (cov l m .1))) u t s))))
+      both-ways (has set′ w) no′ (subst (λ (n : ℕ). has set′ n ≡ true) (eqb-true (l .item / 1024) w h) (cov l m .1))) u t s))))
       ∙ sym (upto-split w b a)
 
   -- a block whose waits are added
@@ -162,8 +166,9 @@ module _ (ok : Rule) (os : List Transaction) (ls : List Lock) where
 
     item-inside : (u x : ℕ) (k : Kind) → bars-with ok ls u x k ≡ true → before-block 64 x ≡ true
     item-inside u x k h = elim (or-cases (not (ok k Read) && holds u x Read ls) (not (ok k Write) && holds u x Write ls) h) [
-        inl a ↦ inside _ (holds-in u x Read ls (and-parts (not (ok k Read)) (holds u x Read ls) a .1))
-      | inr a ↦ inside _ (holds-in u x Write ls (and-parts (not (ok k Write)) (holds u x Write ls) a .1)) ]
+      | inl a ↦ inside _ (holds-in u x Read ls (and-parts (not (ok k Read)) (holds u x Read ls) a .1))
+      | inr a ↦ inside _ (holds-in u x Write ls (and-parts (not (ok k Write)) (holds u x Write ls) a .1))
+    ]
 
     written-all : (u t : ℕ) (ms : List Lock) → ((l : Lock) → In l ms → In l ls) → written-in (before-block 64) u t ls ms ≡ reads-written u t ls ms
     written-all u t [] i = refl

@@ -69,11 +69,11 @@ module _ (ok : Rule) (ls : List Lock) (u t x : ℕ) (k : Kind) where
       let q = and-parts (not (eqb (l .owner) t)) (eqb (l .item) x && not (ok k (l .kind))) (b .2) in
       let r = and-parts (eqb (l .item) x) (not (ok k (l .kind))) (q .1) in (
         (λ e. bars-other ok t x k l (b .2) (sym (b .3) ∙ e)),
-        by (l .kind) refl l (b .1) (sym (b .3)) (eqb-true (l .item) x (r .0)) (r .1),
+        by l (b .1) (sym (b .3)) (eqb-true (l .item) x (r .0)) (r .1),
       )
     where
-      by : (j : Kind) → j ≡ j → (l : Lock) → In l ls → l .owner ≡ u → l .item ≡ x → not (ok k (l .kind)) ≡ true → bars-with ok ls u x k ≡ true
-      by j e l m a b h = go (l .kind) refl
+      by : (l : Lock) → In l ls → l .owner ≡ u → l .item ≡ x → not (ok k (l .kind)) ≡ true → bars-with ok ls u x k ≡ true
+      by l m a b h = go (l .kind) refl
         where
           same : (i : Kind) → l .kind ≡ i → holds u x i ls ≡ true
           same i e = in-holds u x i ls (subst (λ (y : Lock). In y ls) (lock-eq a b e) m)

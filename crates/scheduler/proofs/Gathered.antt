@@ -188,9 +188,6 @@ between-or os f g h e b a =
     ∙ and-or (ltb b (length os)) (ltb a (length os) && f (number-at os a) (number-at os b) (state-at os b)) (ltb a (length os) && g (number-at os a) (number-at os b) (state-at os b))
 
 module _ (os : List Transaction) (last : ℕ) (up : rising 0 last os ≡ true) (ls : List Lock) (k w : ℕ) (in′ : k < length ls) (old rows : List Places) (inv : More os (commits (in-block w) ls (take k ls)) old rows) where
-  new : ℕ → ℕ → Bool
-  new b a = between os (adds (in-block w) ls (getD ls k no-lock)) b a
-
   commits-step : (next : List Places) → ((a b : ℕ) → a < 64 → b < 64 → has (getD next b no-places .bits) a ≡ (has (getD rows b no-places .bits) a || between os (adds (in-block w) ls (getD ls k no-lock)) b a)) → More os (commits (in-block w) ls (take (k + 1) ls)) old next
   commits-step next h a b la lb =
       h a b la lb

@@ -16,3 +16,4 @@ pub mod Stepped
 pub mod Calls
 pub mod Ways
 pub mod Edges
+pub mod Situations

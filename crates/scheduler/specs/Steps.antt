@@ -35,6 +35,9 @@ pub record Terms : Type 0 where
   pub room : ℕ
   pub share : ℕ
 
+abbrev pub terms : Bool → ℕ → ℕ → Terms
+terms private room share = record { private = private; room = room; share = share }
+
 -- a rule over a store, whose pending writes are that many: refused where writes may stand side by side in a store that is not private
 abbrev pub pair-refusal : Rule → Bool → ℕ → Option Refusal
 pair-refusal ok private pending =

@@ -14,7 +14,8 @@ ghost use Rattle.scheduler.specs.Blockers.{In, blockers};
 ghost use Rattle.scheduler.specs.Calls.{called, sought};
 ghost use Rattle.scheduler.specs.Found.{At};
 ghost use Rattle.scheduler.specs.Ledger.{asked, empty, state-of};
-ghost use Rattle.scheduler.specs.Steps.{Answers, Blocked, Done, Placed, checked, granted, no-item, of-scheduler, pair-refusal};
+ghost use Rattle.scheduler.specs.Steps.{Answers, Blocked, Done, Placed, checked, granted, no-item, of-scheduler, pair-refusal, terms};
+ghost use Rattle.scheduler.specs.Situations.{situation};
 ghost use Rattle.scheduler.specs.Stepped.{Stepped};
 ghost use Rattle.scheduler.specs.Tables.{ledger-of};
 use crate::call::Call;
@@ -101,8 +102,8 @@ impl<S: Store, R: LockRule> Scheduler<S, R> {
     fn grant_read(&mut self, i: usize, t: u16, item: u16) -> Result<Reply, Refusal>
         requires at { ⌜ At (open-list (now self .tables .«open»)) t i ⌝ }
         requires free { ⌜ blockers (allows (now self .rule)) (ledger-of (now self .tables) .locks) t (AskRead item) ≡ [] ⌝ }
-        ensures answer { λ r. ⌜ r ≡ granted (record { private = private; room = room; share = share }) (ledger-of (now (self .entry) .tables)) (committed (now (self .entry) .store)) (pending (now (self .entry) .store)) t (AskRead item) ⌝ }
-        ensures step { λ r. ⌜ Stepped (Some (AskRead item)) r (record { ledger = ledger-of (now (self .entry) .tables); committed = committed (now (self .entry) .store); pending = pending (now (self .entry) .store) }) (record { ledger = ledger-of (now (self .exit) .tables); committed = committed (now (self .exit) .store); pending = pending (now (self .exit) .store) }) ⌝ }
+        ensures answer { λ r. ⌜ r ≡ granted (terms private room share) (ledger-of (now (self .entry) .tables)) (committed (now (self .entry) .store)) (pending (now (self .entry) .store)) t (AskRead item) ⌝ }
+        ensures step { λ r. ⌜ Stepped (Some (AskRead item)) r (situation (now (self .entry) .tables) (committed (now (self .entry) .store)) (pending (now (self .entry) .store))) (situation (now (self .exit) .tables) (committed (now (self .exit) .store)) (pending (now (self .exit) .store))) ⌝ }
         ensures same { λ _. ⌜ (now (self .exit) .rule ≡ now (self .entry) .rule) × (now (self .exit) .refusal ≡ now (self .entry) .refusal) × (place (now (self .exit) .store) ≡ place (now (self .entry) .store)) ⌝ }
     {
         let locked = search::holds_any(self.tables.locks.list(), t, item);
@@ -125,8 +126,8 @@ impl<S: Store, R: LockRule> Scheduler<S, R> {
     /// A write that nobody blocks.
     fn grant_write(&mut self, i: usize, t: u16, item: u16, value: i32) -> Result<Reply, Refusal>
         requires at { ⌜ At (open-list (now self .tables .«open»)) t i ⌝ }
-        ensures answer { λ r. ⌜ r ≡ granted (record { private = private; room = room; share = share }) (ledger-of (now (self .entry) .tables)) (committed (now (self .entry) .store)) (pending (now (self .entry) .store)) t (AskWrite item value) ⌝ }
-        ensures step { λ r. ⌜ Stepped (Some (AskWrite item value)) r (record { ledger = ledger-of (now (self .entry) .tables); committed = committed (now (self .entry) .store); pending = pending (now (self .entry) .store) }) (record { ledger = ledger-of (now (self .exit) .tables); committed = committed (now (self .exit) .store); pending = pending (now (self .exit) .store) }) ⌝ }
+        ensures answer { λ r. ⌜ r ≡ granted (terms private room share) (ledger-of (now (self .entry) .tables)) (committed (now (self .entry) .store)) (pending (now (self .entry) .store)) t (AskWrite item value) ⌝ }
+        ensures step { λ r. ⌜ Stepped (Some (AskWrite item value)) r (situation (now (self .entry) .tables) (committed (now (self .entry) .store)) (pending (now (self .entry) .store))) (situation (now (self .exit) .tables) (committed (now (self .exit) .store)) (pending (now (self .exit) .store))) ⌝ }
         ensures same { λ _. ⌜ (now (self .exit) .rule ≡ now (self .entry) .rule) × (now (self .exit) .refusal ≡ now (self .entry) .refusal) × (place (now (self .exit) .store) ≡ place (now (self .entry) .store)) ⌝ }
     {
         let locked = search::holds(self.tables.locks.list(), t, item, Kind::Write);
@@ -150,8 +151,8 @@ impl<S: Store, R: LockRule> Scheduler<S, R> {
     fn grant(&mut self, i: usize, t: u16, ask: Ask) -> Result<Reply, Refusal>
         requires at { ⌜ At (open-list (now self .tables .«open»)) t i ⌝ }
         requires free { ⌜ blockers (allows (now self .rule)) (ledger-of (now self .tables) .locks) t ask ≡ [] ⌝ }
-        ensures answer { λ r. ⌜ r ≡ granted (record { private = private; room = room; share = share }) (ledger-of (now (self .entry) .tables)) (committed (now (self .entry) .store)) (pending (now (self .entry) .store)) t ask ⌝ }
-        ensures step { λ r. ⌜ Stepped (Some ask) r (record { ledger = ledger-of (now (self .entry) .tables); committed = committed (now (self .entry) .store); pending = pending (now (self .entry) .store) }) (record { ledger = ledger-of (now (self .exit) .tables); committed = committed (now (self .exit) .store); pending = pending (now (self .exit) .store) }) ⌝ }
+        ensures answer { λ r. ⌜ r ≡ granted (terms private room share) (ledger-of (now (self .entry) .tables)) (committed (now (self .entry) .store)) (pending (now (self .entry) .store)) t ask ⌝ }
+        ensures step { λ r. ⌜ Stepped (Some ask) r (situation (now (self .entry) .tables) (committed (now (self .entry) .store)) (pending (now (self .entry) .store))) (situation (now (self .exit) .tables) (committed (now (self .exit) .store)) (pending (now (self .exit) .store))) ⌝ }
         ensures same { λ _. ⌜ (now (self .exit) .rule ≡ now (self .entry) .rule) × (now (self .exit) .refusal ≡ now (self .entry) .refusal) × (place (now (self .exit) .store) ≡ place (now (self .entry) .store)) ⌝ }
     {
         match ask {
@@ -170,7 +171,7 @@ impl<S: Store, R: LockRule> Scheduler<S, R> {
         requires at { ⌜ At (open-list (now self .tables .«open»)) t i ⌝ }
         requires blocker { ⌜ In blocker (blockers (allows (now self .rule)) (ledger-of (now self .tables) .locks) t ask) ⌝ }
         ensures answer { λ r. ⌜ Blocked (allows (now (self .entry) .rule)) (ledger-of (now (self .entry) .tables)) t (blockers (allows (now (self .entry) .rule)) (ledger-of (now (self .entry) .tables) .locks) t ask) (Ok r) ⌝ }
-        ensures step { λ r. ⌜ Stepped (Some ask) (Ok r) (record { ledger = ledger-of (now (self .entry) .tables); committed = committed (now (self .entry) .store); pending = pending (now (self .entry) .store) }) (record { ledger = ledger-of (now (self .exit) .tables); committed = committed (now (self .exit) .store); pending = pending (now (self .exit) .store) }) ⌝ }
+        ensures step { λ r. ⌜ Stepped (Some ask) (Ok r) (situation (now (self .entry) .tables) (committed (now (self .entry) .store)) (pending (now (self .entry) .store))) (situation (now (self .exit) .tables) (committed (now (self .exit) .store)) (pending (now (self .exit) .store))) ⌝ }
         ensures same { λ _. ⌜ (now (self .exit) .rule ≡ now (self .entry) .rule) × (now (self .exit) .refusal ≡ now (self .entry) .refusal) × (place (now (self .exit) .store) ≡ place (now (self .entry) .store)) ⌝ }
     {
         self.tables.restate(i, State::Waiting(ask));
@@ -185,8 +186,8 @@ impl<S: Store, R: LockRule> Scheduler<S, R> {
     /// Tries what the transaction asks for.
     fn attempt(&mut self, i: usize, t: u16, ask: Ask) -> Result<Reply, Refusal>
         requires at { ⌜ At (open-list (now self .tables .«open»)) t i ⌝ }
-        ensures answer { λ r. ⌜ Placed (allows (now (self .entry) .rule)) (record { private = private; room = room; share = share }) (ledger-of (now (self .entry) .tables)) (committed (now (self .entry) .store)) (pending (now (self .entry) .store)) t ask (no-item (length (committed (now (self .entry) .store))) ask) r ⌝ }
-        ensures step { λ r. ⌜ Stepped (Some ask) r (record { ledger = ledger-of (now (self .entry) .tables); committed = committed (now (self .entry) .store); pending = pending (now (self .entry) .store) }) (record { ledger = ledger-of (now (self .exit) .tables); committed = committed (now (self .exit) .store); pending = pending (now (self .exit) .store) }) ⌝ }
+        ensures answer { λ r. ⌜ Placed (allows (now (self .entry) .rule)) (terms private room share) (ledger-of (now (self .entry) .tables)) (committed (now (self .entry) .store)) (pending (now (self .entry) .store)) t ask (no-item (length (committed (now (self .entry) .store))) ask) r ⌝ }
+        ensures step { λ r. ⌜ Stepped (Some ask) r (situation (now (self .entry) .tables) (committed (now (self .entry) .store)) (pending (now (self .entry) .store))) (situation (now (self .exit) .tables) (committed (now (self .exit) .store)) (pending (now (self .exit) .store))) ⌝ }
         ensures same { λ _. ⌜ (now (self .exit) .rule ≡ now (self .entry) .rule) × (now (self .exit) .refusal ≡ now (self .entry) .refusal) × (place (now (self .exit) .store) ≡ place (now (self .entry) .store)) ⌝ }
     {
         if ask.exceeds(self.store.size()) {
@@ -200,8 +201,8 @@ impl<S: Store, R: LockRule> Scheduler<S, R> {
 
     /// A call to an open transaction, by its own state.
     fn submit(&mut self, t: u16, call: Call) -> Result<Reply, Refusal>
-        ensures answer { λ r. ⌜ Done (allows (now (self .entry) .rule)) (record { private = private; room = room; share = share }) (ledger-of (now (self .entry) .tables)) (committed (now (self .entry) .store)) (pending (now (self .entry) .store)) (called t call (state-of t (ledger-of (now (self .entry) .tables) .opens))) r ⌝ }
-        ensures step { λ r. ⌜ Stepped (sought call (state-of t (ledger-of (now (self .entry) .tables) .opens))) r (record { ledger = ledger-of (now (self .entry) .tables); committed = committed (now (self .entry) .store); pending = pending (now (self .entry) .store) }) (record { ledger = ledger-of (now (self .exit) .tables); committed = committed (now (self .exit) .store); pending = pending (now (self .exit) .store) }) ⌝ }
+        ensures answer { λ r. ⌜ Done (allows (now (self .entry) .rule)) (terms private room share) (ledger-of (now (self .entry) .tables)) (committed (now (self .entry) .store)) (pending (now (self .entry) .store)) (called t call (state-of t (ledger-of (now (self .entry) .tables) .opens))) r ⌝ }
+        ensures step { λ r. ⌜ Stepped (sought call (state-of t (ledger-of (now (self .entry) .tables) .opens))) r (situation (now (self .entry) .tables) (committed (now (self .entry) .store)) (pending (now (self .entry) .store))) (situation (now (self .exit) .tables) (committed (now (self .exit) .store)) (pending (now (self .exit) .store))) ⌝ }
         ensures same { λ _. ⌜ (now (self .exit) .rule ≡ now (self .entry) .rule) × (now (self .exit) .refusal ≡ now (self .entry) .refusal) × (place (now (self .exit) .store) ≡ place (now (self .entry) .store)) ⌝ }
     {
         let Some(i) = self.tables.find(t) else {
@@ -222,8 +223,8 @@ impl<S: Store, R: LockRule> Scheduler<S, R> {
 
     /// Opens a transaction.
     fn begin(&mut self) -> Result<Reply, Refusal>
-        ensures answer { λ r. ⌜ Done (allows (now (self .entry) .rule)) (record { private = private; room = room; share = share }) (ledger-of (now (self .entry) .tables)) (committed (now (self .entry) .store)) (pending (now (self .entry) .store)) (checked (ledger-of (now (self .entry) .tables)) Begin) r ⌝ }
-        ensures step { λ r. ⌜ Stepped None r (record { ledger = ledger-of (now (self .entry) .tables); committed = committed (now (self .entry) .store); pending = pending (now (self .entry) .store) }) (record { ledger = ledger-of (now (self .exit) .tables); committed = committed (now (self .exit) .store); pending = pending (now (self .exit) .store) }) ⌝ }
+        ensures answer { λ r. ⌜ Done (allows (now (self .entry) .rule)) (terms private room share) (ledger-of (now (self .entry) .tables)) (committed (now (self .entry) .store)) (pending (now (self .entry) .store)) (checked (ledger-of (now (self .entry) .tables)) Begin) r ⌝ }
+        ensures step { λ r. ⌜ Stepped None r (situation (now (self .entry) .tables) (committed (now (self .entry) .store)) (pending (now (self .entry) .store))) (situation (now (self .exit) .tables) (committed (now (self .exit) .store)) (pending (now (self .exit) .store))) ⌝ }
         ensures same { λ _. ⌜ (now (self .exit) .rule ≡ now (self .entry) .rule) × (now (self .exit) .refusal ≡ now (self .entry) .refusal) × (place (now (self .exit) .store) ≡ place (now (self .entry) .store)) ⌝ }
     {
         if self.transactions().len() >= OPEN {
@@ -239,8 +240,8 @@ impl<S: Store, R: LockRule> Scheduler<S, R> {
 
     /// Makes one call.
     pub fn call(&mut self, request: Request) -> Result<Reply, Refusal>
-        ensures answer { λ r. ⌜ Answers (allows (now (self .entry) .rule)) (record { private = private; room = room; share = share }) (now (self .entry) .refusal) (ledger-of (now (self .entry) .tables)) (committed (now (self .entry) .store)) (pending (now (self .entry) .store)) request r ⌝ }
-        ensures step { λ r. ⌜ Stepped (asked (ledger-of (now (self .entry) .tables)) request) r (record { ledger = ledger-of (now (self .entry) .tables); committed = committed (now (self .entry) .store); pending = pending (now (self .entry) .store) }) (record { ledger = ledger-of (now (self .exit) .tables); committed = committed (now (self .exit) .store); pending = pending (now (self .exit) .store) }) ⌝ }
+        ensures answer { λ r. ⌜ Answers (allows (now (self .entry) .rule)) (terms private room share) (now (self .entry) .refusal) (ledger-of (now (self .entry) .tables)) (committed (now (self .entry) .store)) (pending (now (self .entry) .store)) request r ⌝ }
+        ensures step { λ r. ⌜ Stepped (asked (ledger-of (now (self .entry) .tables)) request) r (situation (now (self .entry) .tables) (committed (now (self .entry) .store)) (pending (now (self .entry) .store))) (situation (now (self .exit) .tables) (committed (now (self .exit) .store)) (pending (now (self .exit) .store))) ⌝ }
         ensures same { λ _. ⌜ (now (self .exit) .rule ≡ now (self .entry) .rule) × (now (self .exit) .refusal ≡ now (self .entry) .refusal) × (place (now (self .exit) .store) ≡ place (now (self .entry) .store)) ⌝ }
     {
         if let Some(refusal) = self.refusal {

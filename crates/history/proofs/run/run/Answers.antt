@@ -29,12 +29,18 @@ loop-call-holds g c =
     let e = c .open-scheduler .ensures in
     let ok = g .R·LockRule .allows (O .rule) in
     let pair : O .refusal ≡ pair-refusal ok (S .private) (held-count (S .pending (O .store)) (length (S .committed (O .store)))) =
-        e .refusal ∙ ap₂ (λ r s. pair-refusal (g .R·LockRule .allows r) (S .private) (held-count (S .pending s) (length (S .committed s)))) (sym (e .rule)) (sym (e .store)) in
-    let made = c .in-Continue-answers .ensures tt .made in
-    ( made .1 .0, made .1 .1, refl, refl
-    , ( ap length (made .0)
-      , subst (λ (L : Ledger). Going ok k (O .refusal) (S .committed (O .store)) (S .pending (O .store)) [] L (S .committed (O .store)) (S .pending (O .store))) (sym (e .tables))
-        (going-none ok k (S .committed (O .store)) (S .pending (O .store)) (S .sound (O .store)) (O .refusal) pair)))
+    e .refusal ∙ ap₂ (λ r s. pair-refusal (g .R·LockRule .allows r) (S .private) (held-count (S .pending s) (length (S .committed s)))) (sym (e .rule)) (sym (e .store)) in
+    let made = c .in-Continue-answers .ensures tt .made in (
+      made .1 .0,
+      made .1 .1,
+      refl,
+      refl,
+      (
+        ap length (made .0),
+        subst (λ (L : Ledger). Going ok k (O .refusal) (S .committed (O .store)) (S .pending (O .store)) [] L (S .committed (O .store)) (S .pending (O .store))) (sym (e .tables))
+            (going-none ok k (S .committed (O .store)) (S .pending (O .store)) (S .sound (O .store)) (O .refusal) pair),
+      ),
+    )
 
 pub loop-call-again : need.loop-call-again
 loop-call-again g c =
@@ -44,7 +50,7 @@ loop-call-again g c =
     let e = c .open-scheduler .ensures in
     let ok = g .R·LockRule .allows (O .rule) in
     let pair : O .refusal ≡ pair-refusal ok (S .private) (held-count (S .pending (O .store)) (length (S .committed (O .store)))) =
-        e .refusal ∙ ap₂ (λ r s. pair-refusal (g .R·LockRule .allows r) (S .private) (held-count (S .pending s) (length (S .committed s)))) (sym (e .rule)) (sym (e .store)) in
+    e .refusal ∙ ap₂ (λ r s. pair-refusal (g .R·LockRule .allows r) (S .private) (held-count (S .pending s) (length (S .committed s)))) (sym (e .rule)) (sym (e .store)) in
     let now′ = c .loop-call .scheduler in
     let then′ = c .call-answer .last .self in
     let s : Situation = record { ledger = ledger-of (now′ .tables); committed = S .committed (now′ .store); pending = S .pending (now′ .store) } in
@@ -54,15 +60,16 @@ loop-call-again g c =
     let qs = c .args .calls .now in
     let q = getD qs j Begin in
     let told : Answers ok k (O .refusal) (s .ledger) (s .committed) (s .pending) q (c .call-answer .result) =
-        subst (λ (x : Option Refusal). Answers ok k x (s .ledger) (s .committed) (s .pending) q (c .call-answer .result)) (i .3)
-        (subst (λ r. Answers (g .R·LockRule .allows r) k (now′ .refusal) (s .ledger) (s .committed) (s .pending) q (c .call-answer .result)) (i .2) (c .call-answer .ensures .answer)) in
-    ( omega (arith, i .0, c .push-reserved .ensures .len)
-    , search needs
-    , c .call-answer .ensures .same .0 ∙ i .2
-    , c .call-answer .ensures .same .1 ∙ i .3
-    , subst (λ (xs : List Request). GoingOn ok k (O .refusal) (S .committed (O .store)) (S .pending (O .store)) xs (vec-items (c .push-reserved .last .self)) (n .ledger) (n .committed) (n .pending)) (sym (take-more qs j Begin (c .loop-call-test .taken)))
-      (subst (λ (xs : List Answer). GoingOn ok k (O .refusal) (S .committed (O .store)) (S .pending (O .store)) (take j qs ++ q ∷ []) xs (n .ledger) (n .committed) (n .pending)) (sym (c .push-reserved .ensures .items))
-        (going-push ok (g .R·LockRule·met .apart (O .rule)) k (S .committed (O .store)) (S .pending (O .store)) (O .refusal) pair (take j qs) (vec-items (c .loop-call .answers)) q (c .call-answer .result) s n (i .4) told (c .call-answer .ensures .step))))
+    subst (λ (x : Option Refusal). Answers ok k x (s .ledger) (s .committed) (s .pending) q (c .call-answer .result)) (i .3)
+    (subst (λ r. Answers (g .R·LockRule .allows r) k (now′ .refusal) (s .ledger) (s .committed) (s .pending) q (c .call-answer .result)) (i .2) (c .call-answer .ensures .answer)) in (
+      omega (arith, i .0, c .push-reserved .ensures .len),
+      search needs,
+      c .call-answer .ensures .same .0 ∙ i .2,
+      c .call-answer .ensures .same .1 ∙ i .3,
+      subst (λ (xs : List Request). GoingOn ok k (O .refusal) (S .committed (O .store)) (S .pending (O .store)) xs (vec-items (c .push-reserved .last .self)) (n .ledger) (n .committed) (n .pending)) (sym (take-more qs j Begin (c .loop-call-test .taken)))
+          (subst (λ (xs : List Answer). GoingOn ok k (O .refusal) (S .committed (O .store)) (S .pending (O .store)) (take j qs ++ q ∷ []) xs (n .ledger) (n .committed) (n .pending)) (sym (c .push-reserved .ensures .items))
+          (going-push ok (g .R·LockRule·met .apart (O .rule)) k (S .committed (O .store)) (S .pending (O .store)) (O .refusal) pair (take j qs) (vec-items (c .loop-call .answers)) q (c .call-answer .result) s n (i .4) told (c .call-answer .ensures .step))),
+    )
 
 pub returns : need.returns
 returns g c =
@@ -81,5 +88,5 @@ returns g c =
     let ps = S .pending (F .store) in
     subst (λ (xs : List Request). Ran (g .R·LockRule .allows (c .args .rule)) k PR (S .committed (c .args .store)) (S .pending (c .args .store)) xs as′ L ws ps) all
     (subst (λ s. Ran (g .R·LockRule .allows (c .args .rule)) k PR (S .committed s) (S .pending s) (take (c .loop-call .call-index) qs) as′ L ws ps) (e .store)
-      (subst (λ y. Ran (g .R·LockRule .allows y) k PR (S .committed (O .store)) (S .pending (O .store)) (take (c .loop-call .call-index) qs) as′ L ws ps) (e .rule)
-        (subst (λ (x : Option Refusal). Ran (g .R·LockRule .allows (O .rule)) k x (S .committed (O .store)) (S .pending (O .store)) (take (c .loop-call .call-index) qs) as′ L ws ps) (e .refusal) r)))
+    (subst (λ y. Ran (g .R·LockRule .allows y) k PR (S .committed (O .store)) (S .pending (O .store)) (take (c .loop-call .call-index) qs) as′ L ws ps) (e .rule)
+    (subst (λ (x : Option Refusal). Ran (g .R·LockRule .allows (O .rule)) k x (S .committed (O .store)) (S .pending (O .store)) (take (c .loop-call .call-index) qs) as′ L ws ps) (e .refusal) r)))

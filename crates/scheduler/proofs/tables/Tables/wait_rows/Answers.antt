@@ -21,9 +21,9 @@ loop-block-again g c =
     let ls = lock-list (c .args .self .now .locks .inner) in
     let k = c .loop-block .block in
     elim (c .if-contains .came) [
-      then-contains w ↦ rw (w .rows-is) (upto-add ok os ls k (c .loop-block .rows) _ _ (c .loop-block .inv) (w .add-asks .ensures) (w .add-commits .ensures))
-    | else-contains w ↦ rw (w .rows-is) (upto-skip ok os ls k (c .blocks-blocks .result .bits) (c .loop-block .rows) (c .blocks-blocks .ensures)
-        (ap (has (c .blocks-blocks .result .bits)) (sym (c .from .ensures)) ∙ sym (w .if-contains .ensures tt)) (c .loop-block .inv))
+      | then-contains w ↦ rw (w .rows-is) (upto-add ok os ls k (c .loop-block .rows) _ _ (c .loop-block .inv) (w .add-asks .ensures) (w .add-commits .ensures))
+      | else-contains w ↦ rw (w .rows-is) (upto-skip ok os ls k (c .blocks-blocks .result .bits) (c .loop-block .rows) (c .blocks-blocks .ensures)
+          (ap (has (c .blocks-blocks .result .bits)) (sym (c .from .ensures)) ∙ sym (w .if-contains .ensures tt)) (c .loop-block .inv))
     ]
 
 pub returns : need.returns
