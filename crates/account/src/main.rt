@@ -93,7 +93,7 @@ fn print_run<S: Store + Drop, R: LockRule + Drop>(
     print_answers(rt, found, &answers)?;
     println!(rt, "{ending}")?;
     print_open(rt, &scheduler)?;
-    print_values(rt, scheduler.store())
+    print_values(rt, &scheduler.into_store())
 }
 
 fn main(rt: LibcRuntime) -> io::Result<()> {

@@ -163,7 +163,7 @@ fn plays<S: Store + Drop, R: LockRule + Drop>(
     for ((_, expected), answer) in play.iter().zip(&answers) {
         check_eq(*answer, *expected)?;
     }
-    check_eq(scheduler.store().look(0, 5), Ok(left))
+    check_eq(scheduler.into_store().look(0, 5), Ok(left))
 }
 
 #[test]
