@@ -26,10 +26,11 @@ use Rattle.scheduler.specs.Stepped.{Situation, Stepped}
 use Rattle.scheduler.specs.Steps.{Answers, Terms, of-scheduler, pair-refusal}
 use Rattle.history.specs.Run.{Entry, Run, Served, committed-of, ledger, onto, pending-of, run-of}
 use Rattle.history.specs.Events.{Event, History, more}
-use Rattle.history.specs.Law.{Law}
+use Rattle.history.specs.Law.{Law, Open}
 use Rattle.history.specs.Ran.{Ran}
 use Rattle.history.proofs.Granted.{facts}
 use Rattle.history.proofs.Histories.{Told}
+use Rattle.history.proofs.Serially.{idle}
 use Rattle.history.proofs.Standing.{Locked, Standing, lawful, standing-err, standing-next, standing-none}
 
 -- one call with its answer more
@@ -135,6 +136,16 @@ stands-law : (refusal : Option Refusal) (ok : Rule) (private : Bool) (vs : List 
 stands-law None ok private vs r ws p S = lawful S
 stands-law (Some e) ok private vs r ws p S = lawful S
 
+-- over a refused pair nothing becomes pending
+refused-writes : (ok : Rule) (k : Terms) (x : Refusal) (vs : List ℤ) (p : Writes) (r : Run) → Served ok k (Some x) vs p r → pending-of p r ≡ p
+refused-writes ok k x vs p [] h = refl
+refused-writes ok k x vs p (e ∷ r) h = ap (λ (a : Answer). pending-after (asked (ledger r) (e .call)) a (pending-of p r)) (h .0) ∙ refused-writes ok k x vs p r (h .1)
+
+stands-idle : (refusal : Option Refusal) (ok : Rule) (k : Terms) (vs : List ℤ) (p : Writes) (r : Run) (ws : List ℤ) (p′ : Writes) → Served ok k refusal vs p r → p′ ≡ pending-of p r → Stands refusal ok (k .private) vs r ws p′
+    → ((t i : ℕ) → p t i ≡ None) → (t i : ℕ) → (Open r t → ⊥) → p′ t i ≡ None
+stands-idle None ok k vs p r ws p′ h e S none t i n = idle (S .kept) (S .replayed) t i n
+stands-idle (Some x) ok k vs p r ws p′ h e S none t i n = ap (λ (w : Writes). w t i) (e ∙ refused-writes ok k x vs p r h) ∙ none t i
+
 -- the calls qs so far, with their answers
 abbrev pub GoingOn : Rule → Terms → Option Refusal → List ℤ → Writes → List Request → List Answer → Ledger → List ℤ → Writes → Type 0
 GoingOn ok k refusal vs p qs as′ L ws p′ = (length as′ ≡ length qs) × Going ok k refusal vs p (run-of qs as′) L ws p′
@@ -146,6 +157,7 @@ ran ok k refusal vs p qs as′ L ws p′ g = record {
   tables = g .1 .tables;
   values = g .1 .values;
   writes = g .1 .writes;
+  only-the-open-have-writes = stands-idle refusal ok k vs p (run-of qs as′) ws p′ (g .1 .served) (g .1 .writes) (g .1 .stands);
   law = stands-law refusal ok (k .private) vs (run-of qs as′) ws p′ (g .1 .stands);
 }
 

@@ -134,20 +134,20 @@ replayed-none vs p none = record {
   ends = refl;
 }
 
+-- nobody but an open transaction has anything pending
+pub idle : {L : Ledger} {f : ℕ → List Act} {ts : List ℕ} {vs cs : List ℤ} {p : Writes} → Kept L → Replayed L f ts vs cs p → (t i : ℕ) → (IsOpen L t → ⊥) → p t i ≡ None
+idle {L} {p = p} K R t i n = is-none (p t i) (λ s. n (K .owned (lock t i Write) (holds-in t i Write (L .locks) (R .backed t i ∙ s))))
+
 ok-in : {v : ℤ} (b : Bool) (e : Refusal) (w : ℤ) → cond b (Err e) (Ok w) ≡ Ok v → (b ≡ false) × (w ≡ v)
 ok-in true e w h = let z : _≡_ {A = ℕ} 0 1 = cc in absurd (omega arith)
 ok-in false e w h = (refl, cc)
 
 module _ (ok : Rule) (L : Ledger) (f : ℕ → List Act) (ts : List ℕ) (vs cs : List ℤ) (p : Writes) (K : Kept L) (R : Replayed L f ts vs cs p) (q : Request) where
-  -- nobody but an open transaction has anything pending
-  idle : (t i : ℕ) → (IsOpen L t → ⊥) → p t i ≡ None
-  idle t i n = is-none (p t i) (λ s. n (K .owned (lock t i Write) (holds-in t i Write (L .locks) (R .backed t i ∙ s))))
-
   opened : (t : ℕ) → t ≡ L .begins + 1 → Replayed (feed L q (Ok (Opened t))) f ts vs cs p
   opened t e = record {
     backed = R .backed;
     pend = λ u i h. elim (more-open u t Active (L .opens) h) [
-      | inl x ↦ idle u i (λ o. new u x o) ∙ sym (ap (λ (as′ : List Act). writes as′ i) (R .fresh u (omega arith)))
+      | inl x ↦ idle K R u i (λ o. new u x o) ∙ sym (ap (λ (as′ : List Act). writes as′ i) (R .fresh u (omega arith)))
       | inr o ↦ R .pend u i o
     ];
     seen = λ u i h w. elim (more-open u t Active (L .opens) h) [

@@ -3,7 +3,9 @@ use lib.IntN.{ℤ}
 use lib.ListN.{length}
 use mathlib.Core.List.{List}
 use mathlib.Core.Path.{_≡_}
+use Prim.Native.Nat.{ℕ}
 use Rattle.std.specs.declared.option.Option.{Option}
+use Rattle.std.specs.declared.option.Option.the-variants.{None}
 use Rattle.records.specs.declared.refusal.Refusal.{Refusal}
 use Rattle.records.specs.declared.request.Request.{Request}
 use Rattle.store.specs.Meaning.{Writes}
@@ -11,7 +13,7 @@ use Rattle.scheduler.specs.Blockers.{Rule}
 use Rattle.scheduler.specs.Ledger.{Answer, Ledger}
 use Rattle.scheduler.specs.Steps.{Terms}
 use Rattle.history.specs.Run.{Served, committed-of, ledger, pending-of, run-of}
-use Rattle.history.specs.Law.{Law}
+use Rattle.history.specs.Law.{Law, Open}
 
 -- from the store's values vs and pending writes p at opening, the calls qs were answered by as′, and left the tables L, the values ws and the pending writes p′
 pub record Ran (ok : Rule) (k : Terms) (refusal : Option Refusal) (vs : List ℤ) (p : Writes) (qs : List Request) (as′ : List Answer) (L : Ledger) (ws : List ℤ) (p′ : Writes) : Type 0 where
@@ -23,5 +25,7 @@ pub record Ran (ok : Rule) (k : Terms) (refusal : Option Refusal) (vs : List ℤ
   pub tables : L ≡ ledger (run-of qs as′)
   pub values : ws ≡ committed-of vs p (run-of qs as′)
   pub writes : p′ ≡ pending-of p (run-of qs as′)
+  -- where nothing was pending at opening, a pending write is of an open transaction
+  pub only-the-open-have-writes : ((t i : ℕ) → p t i ≡ None) → (t i : ℕ) → (Open (run-of qs as′) t → ⊥) → p′ t i ≡ None
   -- and the law over the whole run holds
   pub law : Law ok (k .private) vs (run-of qs as′) ws

@@ -31,7 +31,8 @@ pub fn run<S: Store + Drop, R: LockRule + Drop>(
     rule: R,
     calls: &[Request],
 ) -> Result<Finished<S, R>, AllocError>
-    ensures { λ r. ⌜ made r (λ f. Ran (allows rule) (terms private room share) (pair-refusal (allows rule) private (held-count (pending store) (length (committed store)))) (committed store) (pending store) (now (calls .entry)) (vec-items (f .answers)) (ledger-of (f .scheduler .tables)) (committed (f .scheduler .store)) (pending (f .scheduler .store))) ⌝ }
+    ensures ran { λ r. ⌜ made r (λ f. Ran (allows rule) (terms private room share) (pair-refusal (allows rule) private (held-count (pending store) (length (committed store)))) (committed store) (pending store) (now (calls .entry)) (vec-items (f .answers)) (ledger-of (f .scheduler .tables)) (committed (f .scheduler .store)) (pending (f .scheduler .store))) ⌝ }
+    ensures same { λ r. ⌜ made r (λ f. (f .scheduler .rule ≡ rule) × (f .scheduler .refusal ≡ pair-refusal (allows rule) private (held-count (pending store) (length (committed store)))) × (place (f .scheduler .store) ≡ place store)) ⌝ }
 {
     let mut answers = Vec::with_capacity(heap, calls.len())?;
     let mut scheduler = Scheduler::open(store, rule);

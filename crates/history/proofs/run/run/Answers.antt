@@ -35,6 +35,7 @@ loop-call-holds g c =
       made .1 .1,
       refl,
       refl,
+      refl,
       (
         ap length (made .0),
         subst (λ (L : Ledger). Going ok k (O .refusal) (S .committed (O .store)) (S .pending (O .store)) [] L (S .committed (O .store)) (S .pending (O .store))) (sym (e .tables))
@@ -66,9 +67,10 @@ loop-call-again g c =
       search needs,
       c .call-answer .ensures .same .0 ∙ i .2,
       c .call-answer .ensures .same .1 ∙ i .3,
+      c .call-answer .ensures .same .2 ∙ i .4,
       subst (λ (xs : List Request). GoingOn ok k (O .refusal) (S .committed (O .store)) (S .pending (O .store)) xs (vec-items (c .push-reserved .last .self)) (n .ledger) (n .committed) (n .pending)) (sym (take-more qs j Begin (c .loop-call-test .taken)))
           (subst (λ (xs : List Answer). GoingOn ok k (O .refusal) (S .committed (O .store)) (S .pending (O .store)) (take j qs ++ q ∷ []) xs (n .ledger) (n .committed) (n .pending)) (sym (c .push-reserved .ensures .items))
-          (going-push ok (g .R·LockRule·met .apart (O .rule)) k (S .committed (O .store)) (S .pending (O .store)) (O .refusal) pair (take j qs) (vec-items (c .loop-call .answers)) q (c .call-answer .result) s n (i .4) told (c .call-answer .ensures .step))),
+          (going-push ok (g .R·LockRule·met .apart (O .rule)) k (S .committed (O .store)) (S .pending (O .store)) (O .refusal) pair (take j qs) (vec-items (c .loop-call .answers)) q (c .call-answer .result) s n (i .5) told (c .call-answer .ensures .step))),
     )
 
 pub returns : need.returns
@@ -81,12 +83,20 @@ returns g c =
     let all = take-all (c .loop-call .call-index) qs (c .loop-call-test .left) in
     let F = c .loop-call .scheduler in
     let as′ = vec-items (c .loop-call .answers) in
-    let r = ran (g .R·LockRule .allows (O .rule)) k (O .refusal) (S .committed (O .store)) (S .pending (O .store)) (take (c .loop-call .call-index) qs) as′ (ledger-of (F .tables)) (S .committed (F .store)) (S .pending (F .store)) (c .loop-call .inv .4) in
+    let r = ran (g .R·LockRule .allows (O .rule)) k (O .refusal) (S .committed (O .store)) (S .pending (O .store)) (take (c .loop-call .call-index) qs) as′ (ledger-of (F .tables)) (S .committed (F .store)) (S .pending (F .store)) (c .loop-call .inv .5) in
     let PR = pair-refusal (g .R·LockRule .allows (c .args .rule)) (S .private) (held-count (S .pending (c .args .store)) (length (S .committed (c .args .store)))) in
     let L = ledger-of (F .tables) in
     let ws = S .committed (F .store) in
     let ps = S .pending (F .store) in
-    subst (λ (xs : List Request). Ran (g .R·LockRule .allows (c .args .rule)) k PR (S .committed (c .args .store)) (S .pending (c .args .store)) xs as′ L ws ps) all
-    (subst (λ s. Ran (g .R·LockRule .allows (c .args .rule)) k PR (S .committed s) (S .pending s) (take (c .loop-call .call-index) qs) as′ L ws ps) (e .store)
-    (subst (λ y. Ran (g .R·LockRule .allows y) k PR (S .committed (O .store)) (S .pending (O .store)) (take (c .loop-call .call-index) qs) as′ L ws ps) (e .rule)
-    (subst (λ (x : Option Refusal). Ran (g .R·LockRule .allows (O .rule)) k x (S .committed (O .store)) (S .pending (O .store)) (take (c .loop-call .call-index) qs) as′ L ws ps) (e .refusal) r)))
+    record {
+      ran =
+          subst (λ (xs : List Request). Ran (g .R·LockRule .allows (c .args .rule)) k PR (S .committed (c .args .store)) (S .pending (c .args .store)) xs as′ L ws ps) all
+          (subst (λ s. Ran (g .R·LockRule .allows (c .args .rule)) k PR (S .committed s) (S .pending s) (take (c .loop-call .call-index) qs) as′ L ws ps) (e .store)
+          (subst (λ y. Ran (g .R·LockRule .allows y) k PR (S .committed (O .store)) (S .pending (O .store)) (take (c .loop-call .call-index) qs) as′ L ws ps) (e .rule)
+          (subst (λ (x : Option Refusal). Ran (g .R·LockRule .allows (O .rule)) k x (S .committed (O .store)) (S .pending (O .store)) (take (c .loop-call .call-index) qs) as′ L ws ps) (e .refusal) r)));
+      same = (
+        c .loop-call .inv .2 ∙ e .rule,
+        c .loop-call .inv .3 ∙ e .refusal,
+        c .loop-call .inv .4 ∙ ap (S .place) (e .store),
+      );
+    }

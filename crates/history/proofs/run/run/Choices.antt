@@ -15,5 +15,5 @@ Inv-loop-call g l =
     let s = l .entry .scheduler .store in
     let ok = g .R·LockRule .allows (l .entry .scheduler .rule) in
     (vec-len (l .answers) ≡ l .call-index) × (length (l .calls) ≤ vec-cap (l .answers))
-    × (l .scheduler .rule ≡ l .entry .scheduler .rule) × (l .scheduler .refusal ≡ l .entry .scheduler .refusal)
+    × (l .scheduler .rule ≡ l .entry .scheduler .rule) × (l .scheduler .refusal ≡ l .entry .scheduler .refusal) × (S .place (l .scheduler .store) ≡ S .place s)
     × GoingOn ok k (l .entry .scheduler .refusal) (S .committed s) (S .pending s) (take (l .call-index) (l .calls)) (vec-items (l .answers)) (ledger-of (l .scheduler .tables)) (S .committed (l .scheduler .store)) (S .pending (l .scheduler .store))
