@@ -102,12 +102,19 @@ impl Run {
         if file.stopped.is_some() {
             rest.next();
         }
-        run.values = rest
-            .filter_map(|answer| match answer {
-                Answer::Holds { item, value } => Some((item, value)),
-                _ => None,
-            })
-            .collect();
+        for answer in rest {
+            match answer {
+                Answer::Holds { item, value } => run.values.push((item, value)),
+                Answer::StillOpen { .. } => {}
+                _ => {
+                    return Err(Breach {
+                        law: Law::Fits,
+                        answer: run.steps.len(),
+                        reason: format!("{answer:?} behind the last request"),
+                    })
+                }
+            }
+        }
         Ok(run)
     }
 }
