@@ -195,3 +195,61 @@ fn requests_in_every_state() {
         }
     }
 }
+
+/// A lane adds a game to a total while the counter adds a handicap to it.
+#[test]
+fn lost_game() {
+    let value = |t, value| Step::Value { t, item: 5, value };
+    let start = [r(1, 5), w(2, 5, 185), c(2)];
+
+    let mut s = with_open(Pair::InPlace, 2);
+    assert_eq!(last(&mut s, &start), waits_for(2, &[1]));
+    assert_eq!(s.call(w(1, 5, 24)), Step::Deadlock { t: 1 });
+    assert_eq!(s.call(c(1)), refused(Refusal::NotOpen));
+    assert_eq!(s.call(again(2)), Step::Committed { t: 2 });
+    assert_eq!(s.call(B), Step::Opened { t: 3 });
+    assert_eq!(s.call(r(3, 5)), value(3, 185));
+    assert_eq!(
+        last(&mut s, &[w(3, 5, 209), c(3)]),
+        Step::Committed { t: 3 }
+    );
+    assert_eq!(s.committed()[5], 209);
+
+    let mut s = with_open(Pair::Private, 2);
+    assert_eq!(last(&mut s, &start), waits_for(2, &[1]));
+    assert_eq!(
+        last(&mut s, &[w(1, 5, 24), c(1), again(2)]),
+        Step::Committed { t: 2 }
+    );
+    assert_eq!(s.committed()[5], 185);
+}
+
+/// Nobody is remembered as a blocker: the one who has the item now counts.
+#[test]
+fn blockers_are_those_of_now() {
+    for pair in Pair::BOTH {
+        let mut s = with_open(pair, 3);
+        assert_eq!(last(&mut s, &[w(1, 5, 1), r(2, 5)]), waits_for(2, &[1]));
+        assert_eq!(
+            last(&mut s, &[a(1), w(3, 5, 3)]),
+            Step::Written { t: 3, item: 5 }
+        );
+        assert_eq!(s.call(again(2)), waits_for(2, &[3]));
+        assert_eq!(last(&mut s, &[c(3)]), Step::Committed { t: 3 });
+        let value = Step::Value {
+            t: 2,
+            item: 5,
+            value: 3,
+        };
+        assert_eq!(s.call(again(2)), value);
+    }
+}
+
+/// A chain through a transaction that got its write after the wait began.
+#[test]
+fn chains_lead_over_new_blockers() {
+    let mut s = with_open(Pair::Private, 3);
+    let calls = [w(1, 5, 1), w(2, 6, 1), r(2, 5), w(3, 5, 3), r(3, 6)];
+    assert_eq!(last(&mut s, &calls), Step::Deadlock { t: 3 });
+    assert_eq!(s.call(again(2)), waits_for(2, &[1]));
+}

@@ -73,6 +73,26 @@ fn lock_list_files_fill_the_list() {
 }
 
 #[test]
+fn lock_list_files_fill_the_room_as_well() {
+    for pair in Pair::BOTH {
+        let mut met = 0;
+        for index in 0..8 {
+            let profile = Profile::LockList;
+            let input = Plan { profile, index }.bytes(1);
+            let mut scheduler = Scheduler::new(pair);
+            for (_, request) in RequestFile::read(&input).requests {
+                let step = scheduler.call(request);
+                let both = scheduler.pending_count() == 512 && scheduler.lock_count() == 2_048;
+                let is_write = matches!(request, Request::Write { .. });
+                let list_full = step == Step::Refused(Refusal::LockListFull);
+                met += usize::from(both && is_write && list_full);
+            }
+        }
+        assert!(met > 0, "{pair:?}");
+    }
+}
+
+#[test]
 fn room_files_fill_the_room() {
     let steps = steps(Profile::Room, 12);
     let in_place = retries_refused(&steps, Pair::InPlace, Refusal::NoRoom);

@@ -1,14 +1,16 @@
 //! Files that press against the limits of the scheduler and the store.
 
 use super::author::{Author, Mix};
-use crate::scheduler::{Step, ITEMS, LOCK_LIMIT, OPEN_LIMIT};
+use crate::records::Request;
+use crate::scheduler::{Step, ITEMS, LOCK_LIMIT, OPEN_LIMIT, ROOM};
 
 /// Items below this one are kept free for the waits of these files.
 const FIRST_FILLER: usize = 16;
 
 /// The lock list fills up to its last place, and one who waits comes too late.
+/// In every other round the room for pending writes is full as well.
 pub fn lock_list(author: &mut Author) {
-    while author.room() > 12_000 {
+    while author.room() > 16_000 {
         let count = author.rng.between(30, OPEN_LIMIT);
         let members = author.begin_many(count);
         let [writer, reader, ..] = members[..] else {
@@ -16,10 +18,15 @@ pub fn lock_list(author: &mut Author) {
         };
         author.write(writer, 3);
         author.read(reader, 3);
-        fill_locks(author);
+        let mut lowest = FIRST_FILLER;
+        if author.rng.percent(50) {
+            fill_room(author, &members[2..], 0);
+            lowest += ROOM;
+        }
+        fill_locks(author, lowest);
         press(author);
         author.commit(writer);
-        fill_locks(author);
+        fill_locks(author, lowest);
         author.retry(reader);
         press(author);
         let other = author.rng.pick(&members);
@@ -30,13 +37,14 @@ pub fn lock_list(author: &mut Author) {
     author.drain();
 }
 
-fn fill_locks(author: &mut Author) {
+/// Reads of items from `lowest` on, until the list is full.
+fn fill_locks(author: &mut Author, lowest: usize) {
     for _ in 0..4 * LOCK_LIMIT {
         let active = author.active();
         if author.model().lock_count() == LOCK_LIMIT || active.is_empty() {
             return;
         }
-        let item = author.rng.between(FIRST_FILLER, ITEMS - 1) as u16;
+        let item = author.rng.between(lowest, ITEMS - 1) as u16;
         let t = author.rng.pick(&active);
         if author.read(t, item).is_none() {
             return;
@@ -72,10 +80,11 @@ pub fn room(author: &mut Author) {
         };
         author.write(first, 3);
         author.write(second, 3);
-        fill_room(author, &members[1..]);
+        let start = author.rng.below(ITEMS);
+        fill_room(author, &members[1..], start);
         rewrite(author, &members);
         author.abort(first);
-        fill_room(author, &members[1..]);
+        fill_room(author, &members[1..], start + ITEMS / 2);
         author.retry(second);
         let other = author.rng.pick(&members);
         author.abort(other);
@@ -86,8 +95,7 @@ pub fn room(author: &mut Author) {
 }
 
 /// Each of `members` writes new items until it is refused.
-fn fill_room(author: &mut Author, members: &[u16]) {
-    let start = author.rng.between(FIRST_FILLER, ITEMS - 1);
+fn fill_room(author: &mut Author, members: &[u16], start: usize) {
     let span = ITEMS - FIRST_FILLER;
     let mut offset = start;
     for &t in members {
@@ -130,7 +138,7 @@ pub fn many_open(author: &mut Author) {
 /// with high ones.
 pub fn begins(author: &mut Author, variant: usize) {
     match variant % 3 {
-        0 => while author.ask(crate::records::Request::Begin).is_some() {},
+        0 => while author.ask(Request::Begin).is_some() {},
         1 => while burn(author, 1) {},
         _ => {
             let rounds = author.rng.between(4, 200);
