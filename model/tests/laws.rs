@@ -335,6 +335,14 @@ fn a_write_before_a_read_of_one_who_commits_first() {
 }
 
 #[test]
+fn numbers_are_not_used_again() {
+    let steps = [(a(2), aborted(2)), (B, opened(2))];
+    assert_eq!(broken_in_both(&steps, &[]), Some((Law::Fits, 1)));
+    let steps = [(a(2), aborted(2)), (B, opened(3))];
+    assert_eq!(broken_in_both(&steps, &[]), None);
+}
+
+#[test]
 fn bytes_are_decoded() {
     let input = [1, 3, 0, 1, 0, 5, 0, 0, 0, 9, 4, 0, 1, 99];
     let output = serve(Pair::InPlace, &input);

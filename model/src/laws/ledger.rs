@@ -23,6 +23,8 @@ pub(super) struct Ledger {
     /// The open transactions, each with the request that it waits with.
     open: BTreeMap<u16, Option<Request>>,
     waiting: usize,
+    /// The highest number that was opened; none is ever used again.
+    highest: u16,
     /// All locks in the order of granting.
     locks: Vec<Lock>,
 }
@@ -33,6 +35,7 @@ impl Ledger {
             pair,
             open: BTreeMap::new(),
             waiting: 0,
+            highest: 0,
             locks: Vec::new(),
         }
     }
@@ -49,6 +52,7 @@ impl Ledger {
         let event = match (meant, answer) {
             (Request::Begin, Answer::Opened { t }) => {
                 self.open.insert(t, None);
+                self.highest = t;
                 None
             }
             (Request::Read { t, item }, Answer::Value { value, .. }) => {
@@ -90,7 +94,7 @@ impl Ledger {
             Request::Begin | Request::Retry { .. } => true,
         };
         let opens_anew = match answer {
-            Answer::Opened { t } => !self.open.contains_key(&t),
+            Answer::Opened { t } => t > self.highest,
             _ => true,
         };
         if may_ask && opens_anew && fits(meant, answer) {
