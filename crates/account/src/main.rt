@@ -1,4 +1,6 @@
 //! Tells a person what a server makes of a request file, or what it wrote.
+#![tactic(auto)]
+
 mod run;
 mod words;
 mod written;

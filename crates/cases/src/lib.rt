@@ -1,4 +1,6 @@
 // The values that a server starts with, and what the two servers answer from them in the worked cases.
+#![tactic(auto)]
+
 ghost use Rattle.std.specs.Prelude.{◌≡◌, replicate, pos};
 ghost use Rattle.cases.specs.Worked.{WorkedCases};
 

@@ -1,2 +1,4 @@
 //! Runs of the scheduler, and the law that every run keeps.
+#![tactic(auto)]
+
 pub mod run;

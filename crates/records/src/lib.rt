@@ -1,4 +1,6 @@
 //! The records of requests and answers, and the refusals of every layer.
+#![tactic(auto)]
+
 pub mod answer;
 mod number;
 pub mod read;

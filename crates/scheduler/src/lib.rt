@@ -1,4 +1,6 @@
 //! The scheduler: lock rules, the tables, and the steps of a call.
+#![tactic(auto)]
+
 mod call;
 pub mod items;
 pub mod lock;

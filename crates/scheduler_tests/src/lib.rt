@@ -1,4 +1,6 @@
 //! The scheduler at its limits, and played through.
+#![tactic(auto)]
+
 #[cfg(test)]
 mod limits;
 #[cfg(test)]

@@ -1,4 +1,6 @@
 //! Two lanes post a game each to one season total, and a desk reads it, in turns over one scheduler. Prints the account.
+#![tactic(auto)]
+
 mod desk;
 mod lane;
 mod said;

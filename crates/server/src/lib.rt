@@ -1,4 +1,6 @@
 //! A server's work on one input: bytes in, bytes out.
+#![tactic(auto)]
+
 mod closing;
 mod output;
 pub mod pairs;

@@ -1,4 +1,6 @@
 //! What the two servers write, byte for byte.
+#![tactic(auto)]
+
 #[cfg(test)]
 mod bytes;
 #[cfg(test)]

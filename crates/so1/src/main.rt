@@ -1,5 +1,7 @@
 //! Serves the request file on standard input over a store that is written in place, and writes the answers to standard
 //! output.
+#![tactic(auto)]
+
 use reading::requests::LIMIT;
 use server::pairs::serve_in_place;
 use std::io;

@@ -1,5 +1,7 @@
 //! Serves the request file on standard input over a store that keeps pending writes apart, and writes the answers to
 //! standard output.
+#![tactic(auto)]
+
 use reading::requests::LIMIT;
 use server::pairs::serve_beside;
 use std::io;

@@ -1,4 +1,6 @@
 //! Value stores: committed values and pending writes, behind one trait.
+#![tactic(auto)]
+
 pub mod in_place;
 pub mod lending;
 pub mod private;

@@ -1,4 +1,6 @@
 //! Both stores at their limits, and played through.
+#![tactic(auto)]
+
 #[cfg(test)]
 mod tests {
     use records::refusal::{Layer, Reason, Refusal};

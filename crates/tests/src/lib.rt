@@ -1,4 +1,6 @@
 //! Examples for records and for the reading of request files.
+#![tactic(auto)]
+
 #[cfg(test)]
 mod answers;
 #[cfg(test)]

@@ -1,3 +1,5 @@
 //! Tickets: what a transaction may do next is in the type of its ticket.
+#![tactic(auto)]
+
 pub mod outcome;
 pub mod ticket;

@@ -1,4 +1,6 @@
 //! Every outcome of a ticket's calls, and of a posting.
+#![tactic(auto)]
+
 #[cfg(test)]
 mod hands;
 #[cfg(test)]
