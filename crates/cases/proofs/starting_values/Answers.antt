@@ -9,5 +9,5 @@ returns c =
     let long = length-replicate 1024 (pos 0) in
     record {
       zeros = refl;
-      worked-cases = worked (replicate 1024 (pos 0)) long (λ i. ⊎_elim (get_or-replicate 1024 i (pos 0) (pos 0)) (λ le. get_or_past (replicate 1024 (pos 0)) i (pos 0) (omega arith)) (cases_lt i 1024));
+      worked_cases = worked (replicate 1024 (pos 0)) long (λ i. ⊎_elim (get_or-replicate 1024 i (pos 0) (pos 0)) (λ le. get_or_past (replicate 1024 (pos 0)) i (pos 0) (omega arith)) (cases_lt i 1024));
     }

@@ -21,7 +21,7 @@ loop-call-init g c =
     let ok = g.R.LockRule.allows O.rule in
     let pair : O.refusal ≡ pair_refusal ok S.private (held_count (S.pending O.store) (length (S.committed O.store))) =
     e.refusal ∙ ap₂ (λ r s. pair_refusal (g.R.LockRule.allows r) S.private (held_count (S.pending s) (length (S.committed s)))) (sym e.rule) (sym e.store) in
-    let made = c.in-ok-answers.ensures in (
+    let made = c.in_ok-answers.ensures in (
       made.len,
       made.capacity,
       refl,
@@ -54,13 +54,13 @@ loop-call-preserved g c =
     let told : Answers ok k O.refusal s.ledger s.committed s.pending q c.call-answer.result =
     subst (λ (x : Option Refusal). Answers ok k x s.ledger s.committed s.pending q c.call-answer.result) i.3
     (subst (λ r. Answers (g.R.LockRule.allows r) k now'.refusal s.ledger s.committed s.pending q c.call-answer.result) i.2 c.call-answer.ensures.answer) in (
-      omega (arith, i.0, c.push-reserved.ensures.len),
+      omega (arith, i.0, c.push_reserved.ensures.len),
       search rules,
       c.call-answer.ensures.same.0 ∙ i.2,
       c.call-answer.ensures.same.1 ∙ i.3,
       c.call-answer.ensures.same.2 ∙ i.4,
-      subst (λ (xs : List Request). GoingOn ok k O.refusal (S.committed O.store) (S.pending O.store) xs (vec_items c.push-reserved.new.self) n.ledger n.committed n.pending) (sym (take_more qs j Begin c.loop-call-test.true))
-          (subst (λ (xs : List Answer). GoingOn ok k O.refusal (S.committed O.store) (S.pending O.store) (take j qs ++ q ∷ []) xs n.ledger n.committed n.pending) (sym c.push-reserved.ensures.items)
+      subst (λ (xs : List Request). GoingOn ok k O.refusal (S.committed O.store) (S.pending O.store) xs (vec_items c.push_reserved.new.self) n.ledger n.committed n.pending) (sym (take_more qs j Begin c.loop-call-test.true))
+          (subst (λ (xs : List Answer). GoingOn ok k O.refusal (S.committed O.store) (S.pending O.store) (take j qs ++ q ∷ []) xs n.ledger n.committed n.pending) (sym c.push_reserved.ensures.items)
           (going-push ok (g.met.R.LockRule.apart O.rule) k (S.committed O.store) (S.pending O.store) O.refusal pair (take j qs) (vec_items c.loop-call.answers) q c.call-answer.result s n i.5 told c.call-answer.ensures.step)),
     )
 

@@ -22,33 +22,33 @@ loop-i-preserved c =
     let l = get_or ls (i - 1) no_lock in
     let up : 0 < i = omega arith in
     let in' : i ≤ length ls = omega arith in
-    let no' : (reads_beside t l && holds t l.item Write (drop i ls)) ≡ false = ap (λ (b : Bool). reads_beside t l && b) (sym (c.loop-i.invariant.1 l.item)) ∙ sym c.if-reads-one-of.ensures in (
+    let no' : (reads_beside t l && holds t l.item Write (drop i ls)) ≡ false = ap (λ (b : Bool). reads_beside t l && b) (sym (c.loop-i.invariant.1 l.item)) ∙ sym c.if-reads_one_of.ensures in (
       ahead_front t ls i up in' no' c.loop-i.invariant.0,
-      λ x. c.loop-i.invariant.1 x ∙ sym (holds_front t ls i up in' x ∙ ap (λ (b : Bool). b || holds t x Write (drop i ls)) (no_write_of t x l (sym c.if-is-lock.ensures))),
+      λ x. c.loop-i.invariant.1 x ∙ sym (holds_front t ls i up in' x ∙ ap (λ (b : Bool). b || holds t x Write (drop i ls)) (no_write_of t x l (sym c.if-is_lock.ensures))),
     )
 
-pub loop-i-preserved-then-is-lock : goal.loop-i-preserved-then-is-lock
-loop-i-preserved-then-is-lock c =
+pub loop-i-preserved-then-is_lock : goal.loop-i-preserved-then-is_lock
+loop-i-preserved-then-is_lock c =
     let t = c.args.t in
     let ls = c.args.locks.now in
     let i = c.loop-i.i in
     let l = get_or ls (i - 1) no_lock in
     let up : 0 < i = omega arith in
     let in' : i ≤ length ls = omega arith in
-    let no' : (reads_beside t l && holds t l.item Write (drop i ls)) ≡ false = ap (λ (b : Bool). reads_beside t l && b) (sym (c.loop-i.invariant.1 l.item)) ∙ sym c.if-reads-one-of.ensures in (
+    let no' : (reads_beside t l && holds t l.item Write (drop i ls)) ≡ false = ap (λ (b : Bool). reads_beside t l && b) (sym (c.loop-i.invariant.1 l.item)) ∙ sym c.if-reads_one_of.ensures in (
       ahead_front t ls i up in' no' c.loop-i.invariant.0,
-      λ x. c.insert.ensures x ∙ ap₂ (λ (a b : Bool). a || b) (c.loop-i.invariant.1 x) (sym (is_write_of t x l (sym c.if-is-lock.ensures))) ∙ or_swap (holds t x Write (drop i ls)) (is_lock t x Write l) ∙ sym (holds_front t ls i up in' x),
+      λ x. c.insert.ensures x ∙ ap₂ (λ (a b : Bool). a || b) (c.loop-i.invariant.1 x) (sym (is_write_of t x l (sym c.if-is_lock.ensures))) ∙ or_swap (holds t x Write (drop i ls)) (is_lock t x Write l) ∙ sym (holds_front t ls i up in' x),
     )
 
-pub returns-then-reads-one-of : goal.returns-then-reads-one-of
-returns-then-reads-one-of c =
+pub returns-then-reads_one_of : goal.returns-then-reads_one_of
+returns-then-reads_one_of c =
     let t = c.args.t in
     let ls = c.args.locks.now in
     let i = c.loop-i.i in
     let l = get_or ls (i - 1) no_lock in
     let up : 0 < i = omega arith in
     let in' : i ≤ length ls = omega arith in
-    let yes' : (reads_beside t l && holds t l.item Write (drop i ls)) ≡ true = ap (λ (b : Bool). reads_beside t l && b) (sym (c.loop-i.invariant.1 l.item)) ∙ sym c.if-reads-one-of.ensures in
+    let yes' : (reads_beside t l && holds t l.item Write (drop i ls)) ≡ true = ap (λ (b : Bool). reads_beside t l && b) (sym (c.loop-i.invariant.1 l.item)) ∙ sym c.if-reads_one_of.ensures in
     ahead-later t ls (i - 1) l.owner (ahead-found t ls i up in' yes')
 
 pub returns : goal.returns

@@ -11,7 +11,7 @@ loop-transaction-preserved c =
     let os = c.args.transactions.now in
     let i = c.loop-transaction.transaction-index in
     let new' = answer_bytes (still_open (get_or os i no_transaction)) in
-    let pushed' = c.in-ok-push-record.ensures ∙ ap (λ r. vec_items c.loop-transaction.out ++ answer_bytes r) c.open-record.ensures in
+    let pushed' = c.in_ok-push_record.ensures ∙ ap (λ r. vec_items c.loop-transaction.out ++ answer_bytes r) c.open_record.ensures in
     one_more _ _ new' _ _ _ pushed' (at_drop_more (λ xs. bytes_of (map still_open xs)) os i no_transaction c.loop-transaction-test.true) c.loop-transaction.invariant
 
 pub returns : goal.returns

@@ -19,8 +19,8 @@ loop-index-preserved g c =
     let low : i < length cs = omega arith in
     let fits : SFits w32 c.unwrap-value.result = search rules in
     let v = get_or vs i (pos 0) in
-    let pushed' : vec_items c.push-value.new.out ≡ vec_items c.loop-index.out ++ bytes_of (held i v) =
-    c.in-ok-push-value.ensures ∙ ap (λ w. vec_items c.loop-index.out ++ bytes_of (held i w)) (to_z-of_z w32 c.unwrap-value.result fits ∙ seen cs (g.S.Store.pending c.args.store.now) i c.unwrap-value.result low (sym c.look.ensures ∙ c.unwrap-value.ensures)) in
+    let pushed' : vec_items c.push_value.new.out ≡ vec_items c.loop-index.out ++ bytes_of (held i v) =
+    c.in_ok-push_value.ensures ∙ ap (λ w. vec_items c.loop-index.out ++ bytes_of (held i w)) (to_z-of_z w32 c.unwrap-value.result fits ∙ seen cs (g.S.Store.pending c.args.store.now) i c.unwrap-value.result low (sym c.look.ensures ∙ c.unwrap-value.ensures)) in
     one_more _ _ (bytes_of (held i v)) _ _ _ pushed' (at_drop_more (λ xs. bytes_of (holding i xs)) vs i (pos 0) lt ∙ bytes_append (held i v) (holding (i + 1) (drop (i + 1) vs))) c.loop-index.invariant
 
 pub returns : goal.returns

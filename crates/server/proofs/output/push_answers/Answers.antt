@@ -11,7 +11,7 @@ pub loop-placed-preserved : goal.loop-placed-preserved
 loop-placed-preserved c =
     let q = c.in-Some.placed.now in
     let a = c.in-Some.answer.now in
-    let pushed' = c.in-ok-push-record.ensures ∙ ap (λ r. vec_items c.loop-placed.out ++ answerBytes r) c.answer-record.ensures in
+    let pushed' = c.in_ok-push_record.ensures ∙ ap (λ r. vec_items c.loop-placed.out ++ answerBytes r) c.answer_record.ensures in
     one_more _ _ (answerBytes (told q.place a)) _ _ _ pushed'
     (ap (λ ps. bytes_of (map (λ (p : Placed × Answer). told p.0.place p.1) ps)) (pairs-rest-more c.loop-placed.placed-iterator c.next.new.self c.next.result _ c.in-Some.is c.next.ensures.steps))
     c.loop-placed.invariant

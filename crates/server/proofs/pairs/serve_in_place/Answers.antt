@@ -10,4 +10,4 @@ returns c =
     let s = in_place_server in
     let e = c.open-store.ensures in
     at-opening (λ x vs p. IfOk c.serve.result (λ out. Output s.rule s.terms x vs p c.args.input.now (vec_items out))) s.rule s.terms.private _ _ _
-    (e.committed ∙ ap items c.starting-values-values.ensures.zeros) e.pending refl c.serve.ensures
+    (e.committed ∙ ap items c.starting_values-values.ensures.zeros) e.pending refl c.serve.ensures

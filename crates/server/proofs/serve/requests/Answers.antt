@@ -13,7 +13,7 @@ loop-placed-preserved c =
     let i = c.loop-placed.placed-index in
     let d : Placed = record { place = 0; request = Begin } in
     let q = get_or qs i d in
-    one_more _ _ (q.request ∷ []) _ _ _ (pushed (q.request ∷ []) refl c.in-ok-push.was c.push.ensures.items) (at_drop_more requests_of qs i d c.loop-placed-test.true) c.loop-placed.invariant
+    one_more _ _ (q.request ∷ []) _ _ _ (pushed (q.request ∷ []) refl c.in_ok-push.was c.push.ensures.items) (at_drop_more requests_of qs i d c.loop-placed-test.true) c.loop-placed.invariant
 
 pub returns : goal.returns
 returns c = all_there _ _ _ (at_drop_all requests_of c.args.found.now c.loop-placed.placed-index c.loop-placed-test.false) c.loop-placed.invariant

@@ -9,9 +9,9 @@ use Rattle.store.specs.Slices.{in_place_slice, items, pending_in, rest}
 pub returns : goal.returns
 returns c =
     let vs = c.args.values.now in
-    let was = c.open-in-place.ensures in
+    let was = c.open-in_place.ensures in
     let did = c.rehearse.ensures in
-    let s = c.open-in-place.result in
+    let s = c.open-in_place.result in
     let e = c.rehearse.new.store in
     let none : (i : ℕ) → pending_in (entries s.images) s.values.now c.args.t i ≡ None = λ i. ap (λ (p : Writes). p c.args.t i) was.pending in
     let committed = did.committed ∙ was.committed in

@@ -5,7 +5,7 @@ use Rattle.std.proofs.lemmas.Int.{to_z-of_z}
 use Rattle.std.proofs.lemmas.Bool.{cond-false, cond-true}
 use Rattle.store.proofs.Rehearsed.{accepted_less, accepted-more, declined, looked-others, looked_own, no_write, took, without-none, without-written}
 use Rattle.store.proofs.rehearsal.rehearse.Goals as goal
-use Rattle.store.proofs.rehearsal.rehearse.Goals.{else-is-ok, then-is-ok}
+use Rattle.store.proofs.rehearsal.rehearse.Goals.{else-is_ok, then-is_ok}
 use Rattle.store.specs.Meaning.{Writes, looked, refused, without, written}
 use Rattle.store.specs.Rehearsals.{accepted}
 
@@ -25,14 +25,14 @@ loop-w-preserved g c =
     let same : why ≡ refused m.private m.room m.share cs p t w.item = ap (λ (l : List ℤ). refused m.private m.room m.share l p t w.item) inv.1 in
     let fits : SFits w32 w.value = search rules in
     let after : q ≡ cond (is_ok c.put.result) (written p t w.item w.value) p = c.put.ensures.pending ∙ ap (λ (v : ℤ). cond (is_ok c.put.result) (written p t w.item v) p) (to_z-of_z w32 w.value fits) in
-    elim c.if-is-ok.branch [
-      | then-is-ok way ↦
-          let ok : is_ok c.put.result ≡ true = sym c.is-ok.ensures.value ∙ way.if-is-ok.true in
+    elim c.if-is_ok.branch [
+      | then-is_ok way ↦
+          let ok : is_ok c.put.result ≡ true = sym c.is_ok.ensures.value ∙ way.if-is_ok.true in
           let wrote : q ≡ written p t w.item w.value = after ∙ cond-true (is_ok c.put.result) (written p t w.item w.value) p ok in
           let more = accepted-more m.private m.room m.share cs t ws k c.loop-w-test.true p (sym (ap is_some same) ∙ took c.put.result why c.put.ensures.answer ok) in
           (omega (arith, way.count-is, inv.0), c.put.ensures.committed ∙ inv.1, ap (λ (r : Writes). without r t) wrote ∙ without-written p t w.item w.value ∙ inv.2, c.put.ensures.place ∙ inv.3, omega (arith, way.count-is, inv.4, more, ap left wrote))
-      | else-is-ok way ↦
-          let no' : is_ok c.put.result ≡ false = sym c.is-ok.ensures.value ∙ way.if-is-ok.false in
+      | else-is_ok way ↦
+          let no' : is_ok c.put.result ≡ false = sym c.is_ok.ensures.value ∙ way.if-is_ok.false in
           let stays : q ≡ p = after ∙ cond-false (is_ok c.put.result) (written p t w.item w.value) p no' in
           let less = accepted_less m.private m.room m.share cs t ws k c.loop-w-test.true p (sym (ap is_some same) ∙ declined c.put.result why c.put.ensures.answer no') in
           (omega (arith, way.count-is, inv.0), c.put.ensures.committed ∙ inv.1, ap (λ (r : Writes). without r t) stays ∙ inv.2, c.put.ensures.place ∙ inv.3, omega (arith, way.count-is, inv.4, less, ap left stays))

@@ -4,5 +4,5 @@ use Rattle.scheduler.specs.Arrays.{lock_list}
 use Rattle.scheduler.proofs.Orderly.{orderly_kept}
 use Rattle.scheduler.proofs.lock_list.LockList.remove_owner.Goals as goal
 
-pub invariant-of-self : goal.invariant-of-self
-invariant-of-self c = (omega (arith, c.remove-owner.ensures.len, c.args.self.now.fits), (rw c.remove-owner.ensures.list (orderly_kept (λ (x : Lock). not (eqb x.owner c.args.t)) (lock_list c.args.self.now.inner) c.args.self.now.orderly), tt))
+pub invariant_of-self : goal.invariant_of-self
+invariant_of-self c = (omega (arith, c.remove_owner.ensures.len, c.args.self.now.fits), (rw c.remove_owner.ensures.list (orderly_kept (λ (x : Lock). not (eqb x.owner c.args.t)) (lock_list c.args.self.now.inner) c.args.self.now.orderly), tt))

@@ -6,14 +6,14 @@ use Rattle.scheduler.specs.Tables.{ledger_of}
 use Rattle.scheduler.proofs.Circling.{circle-at, dead, moved_is, struck-wait, waits}
 use Rattle.scheduler.proofs.scheduler.Scheduler.block.Goals as goal
 
-pub returns-then-closes-circle : goal.returns-then-closes-circle
-returns-then-closes-circle g c =
+pub returns-then-closes_circle : goal.returns-then-closes_circle
+returns-then-closes_circle g c =
     let ok = g.R.LockRule.allows c.args.self.now.rule in
     let L = ledger_of c.args.self.now.tables in
     let t = c.args.t in
-    let d = circle-at ok L t c.args.i c.args.ask c.requires.at (ledger_of c.restate.new.self) c.restate.ensures c.closes-circle.result c.closes-circle.ensures in
+    let d = circle-at ok L t c.args.i c.args.ask c.requires.at (ledger_of c.restate.new.self) c.restate.ensures c.closes_circle.result c.closes_circle.ensures in
     record {
-      answer = dead ok L t c.args.ask (ap is_some c.requires.at.state) (d.0 c.if-closes-circle.true);
+      answer = dead ok L t c.args.ask (ap is_some c.requires.at.state) (d.0 c.if-closes_circle.true);
       step = record {
         ledger = c.close.ensures ∙ ap (struck t) (c.restate.ensures ∙ moved_is L t c.args.i (Waiting c.args.ask) c.requires.at) ∙ struck-wait t c.args.ask L;
         committed = c.discard.ensures.committed;
@@ -27,9 +27,9 @@ returns g c =
     let ok = g.R.LockRule.allows c.args.self.now.rule in
     let L = ledger_of c.args.self.now.tables in
     let t = c.args.t in
-    let d = circle-at ok L t c.args.i c.args.ask c.requires.at (ledger_of c.restate.new.self) c.restate.ensures c.closes-circle.result c.closes-circle.ensures in
+    let d = circle-at ok L t c.args.i c.args.ask c.requires.at (ledger_of c.restate.new.self) c.restate.ensures c.closes_circle.result c.closes_circle.ensures in
     record {
-      answer = waits ok L t c.args.ask (ap is_some c.requires.at.state) (λ x. both_ways c.closes-circle.result c.if-closes-circle.false (d.1 x)) c.args.blocker c.requires.blocker;
+      answer = waits ok L t c.args.ask (ap is_some c.requires.at.state) (λ x. both_ways c.closes_circle.result c.if-closes_circle.false (d.1 x)) c.args.blocker c.requires.blocker;
       step = record {
         ledger = c.restate.ensures ∙ moved_is L t c.args.i (Waiting c.args.ask) c.requires.at;
         committed = refl;

@@ -14,9 +14,9 @@ grant-requires g c =
     let i = c.args.item in
     record {
       at = c.requires.at;
-      room = λ e. c.lacks-room.ensures.room c.if-lacks-room.false e;
+      room = λ e. c.lacks_room.ensures.room c.if-lacks_room.false e;
       fresh = λ e.
-          let none : (holds t i Read ls || holds t i Write ls) ≡ false = sym (c.holds-any-locked.ensures ∙ ap (λ (xs : List Lock). holds t i Read xs || holds t i Write xs) c.list.ensures) ∙ e in
+          let none : (holds t i Read ls || holds t i Write ls) ≡ false = sym (c.holds_any-locked.ensures ∙ ap (λ (xs : List Lock). holds t i Read xs || holds t i Write xs) c.list.ensures) ∙ e in
           let parts = or_parts (holds t i Read ls) (holds t i Write ls) none in
           fresh-read (g.R.LockRule.allows c.args.self.now.rule) (g.met.R.LockRule.apart c.args.self.now.rule) t i ls c.requires.free parts.0 parts.1;
     }

@@ -19,7 +19,7 @@ grant-requires g c =
     let i = c.args.item in
     record {
       at = c.requires.at;
-      room = λ e. c.lacks-room.ensures.room c.if-lacks-room.false e;
+      room = λ e. c.lacks_room.ensures.room c.if-lacks_room.false e;
       fresh = λ e. fresh-write t i ls (sym (c.holds-locked.ensures ∙ ap (λ (xs : List Lock). holds t i Write xs) c.list.ensures) ∙ e);
     }
 
@@ -28,17 +28,17 @@ passed : {e : Refusal} (o : Option Refusal) → Err e ≡ answered o → o ≡ S
 passed None h = let z : ◌≡◌ {A = ℕ} 0 1 = cc in absurd (omega arith)
 passed (Some d) h = cc
 
-pub returns-in-err-put : goal.returns-in-err-put
-returns-in-err-put g c =
+pub returns-in_err-put : goal.returns-in_err-put
+returns-in_err-put g c =
     let p = err_from_is_err_and c.from-residual.result c.from-residual.ensures.1 in
     let ls = lock_list c.args.self.now.tables.locks.inner in
     let t = c.args.t in
     let i = c.args.item in
     let L = ledger_of c.args.self.now.tables in
     let locked : c.holds-locked.result ≡ holds t i Write ls = c.holds-locked.ensures ∙ ap (λ (xs : List Lock). holds t i Write xs) c.list.ensures in
-    let room : (not (holds t i Write ls) && full L) ≡ false = ap (λ (b : Bool). not b && full L) (sym locked) ∙ sym c.if-lacks-room.ensures.value in
+    let room : (not (holds t i Write ls) && full L) ≡ false = ap (λ (b : Bool). not b && full L) (sym locked) ∙ sym c.if-lacks_room.ensures.value in
     rw (p.1, p.2) (record {
-      answer = sym (cond-false _ _ _ room ∙ ap (value_put t i) (passed _ c.in-err-put.ensures.answer));
-      step = record { ledger = refl; committed = c.put.ensures.committed; pending = c.in-err-put.ensures.pending };
+      answer = sym (cond-false _ _ _ room ∙ ap (value_put t i) (passed _ c.in_err-put.ensures.answer));
+      step = record { ledger = refl; committed = c.put.ensures.committed; pending = c.in_err-put.ensures.pending };
       same = (refl, refl, c.put.ensures.place);
     })

@@ -21,7 +21,7 @@ loop-b-preserved g c =
     let li : i < length c.loop-b.rows = omega (arith, c.loop-b.invariant.0, c.loop-b-test.true, c.args.self.now.few) in (
       length-set c.loop-b.rows i c.union.result ∙ c.loop-b.invariant.0,
       asks-more os f c.args.rows.now c.loop-b.rows i c.union.result li c.loop-b.invariant.1
-          (λ a la. c.union.ensures a ∙ ap (λ (t : Bool). has (get_or c.loop-b.rows i no_places).bits a || t) (c.asked-in.ensures a la)),
+          (λ a la. c.union.ensures a ∙ ap (λ (t : Bool). has (get_or c.loop-b.rows i no_places).bits a || t) (c.asked_in.ensures a la)),
     )
 
 pub returns : goal.returns

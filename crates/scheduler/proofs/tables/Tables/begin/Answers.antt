@@ -6,8 +6,8 @@ use Rattle.scheduler.specs.Ledger.{transaction}
 use Rattle.scheduler.proofs.Rising.{rising-push}
 use Rattle.scheduler.proofs.tables.Tables.begin.Goals as goal
 
-pub invariant-of-self : goal.invariant-of-self
-invariant-of-self c =
+pub invariant_of-self : goal.invariant_of-self
+invariant_of-self c =
     let os = open_list c.args.self.now.open in
     let p = c.push.ensures in (
       omega arith,

@@ -4,8 +4,8 @@ use Rattle.scheduler.specs.Arrays.{open_list}
 use Rattle.scheduler.proofs.Rising.{rising_kept}
 use Rattle.scheduler.proofs.tables.Tables.close.Goals as goal
 
-pub invariant-of-self : goal.invariant-of-self
-invariant-of-self c =
+pub invariant_of-self : goal.invariant_of-self
+invariant_of-self c =
     let p = c.remove.ensures in (
       c.args.self.now.counted,
       (

@@ -14,16 +14,16 @@ returns-then-contains g c =
     let p = c.loop-p.p in
     let few : length (open_list T.open) ≤ 64 = omega (arith, T.whole, T.few) in
     let in' : c.args.i < length (open_list T.open) = omega (arith, T.whole, c.requires) in (
-      (λ _. round (g.R.LockRule.allows c.args.rule.now) (ledger_of T) c.wait-rows-rows.result few T.locks.orderly T.rising c.wait-rows-rows.ensures c.args.i in' p c.loop-p-test.true ((c.leading-to-leading.ensures p).0 c.if-leading-p.true) (sym c.if-contains.ensures)),
+      (λ _. round (g.R.LockRule.allows c.args.rule.now) (ledger_of T) c.wait_rows-rows.result few T.locks.orderly T.rising c.wait_rows-rows.ensures c.args.i in' p c.loop-p-test.true ((c.leading_to-leading.ensures p).0 c.if-leading-p.true) (sym c.if-contains.ensures)),
       λ _. refl,
     )
 
 pub loop-p-preserved : goal.loop-p-preserved
 loop-p-preserved g c =
-    below_more (λ (k : ℕ). get_or c.leading-to-leading.result k false ≡ true → has (get_or c.wait-rows-rows.result c.args.i no_places).bits k ≡ true → ⊥) c.loop-p.p c.loop-p.invariant
+    below_more (λ (k : ℕ). get_or c.leading_to-leading.result k false ≡ true → has (get_or c.wait_rows-rows.result c.args.i no_places).bits k ≡ true → ⊥) c.loop-p.p c.loop-p.invariant
     (λ a b. elim c.else-leading-p.branch [
       | else-leading-p-via-then-leading-p+else-contains w ↦ both_ways w.contains.result w.if-contains.false (w.contains.ensures ∙ b)
-      | else-leading-p-via-else-leading-p w ↦ both_ways (get_or c.leading-to-leading.result c.loop-p.p false) w.if-leading-p.false a
+      | else-leading-p-via-else-leading-p w ↦ both_ways (get_or c.leading_to-leading.result c.loop-p.p false) w.if-leading-p.false a
     ])
 
 pub returns : goal.returns
@@ -32,6 +32,6 @@ returns g c =
     let few : length (open_list T.open) ≤ 64 = omega (arith, T.whole, T.few) in
     let in' : c.args.i < length (open_list T.open) = omega (arith, T.whole, c.requires) in (
       (λ e. absurd (both_ways false refl e)),
-      λ x. let u = unround (g.R.LockRule.allows c.args.rule.now) (ledger_of T) c.wait-rows-rows.result few T.locks.orderly T.rising c.wait-rows-rows.ensures c.args.i in' x in
-          absurd (c.loop-p.invariant u.0 (omega (arith, u.1)) ((c.leading-to-leading.ensures u.0).1 u.2) u.3),
+      λ x. let u = unround (g.R.LockRule.allows c.args.rule.now) (ledger_of T) c.wait_rows-rows.result few T.locks.orderly T.rising c.wait_rows-rows.ensures c.args.i in' x in
+          absurd (c.loop-p.invariant u.0 (omega (arith, u.1)) ((c.leading_to-leading.ensures u.0).1 u.2) u.3),
     )

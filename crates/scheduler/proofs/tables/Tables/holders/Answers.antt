@@ -7,7 +7,7 @@ use Rattle.scheduler.specs.Edges.{Held}
 use Rattle.scheduler.specs.ItemSets.{no_places}
 use Rattle.scheduler.proofs.Gathering.{blank, held_add, held_gone, held_skip}
 use Rattle.scheduler.proofs.tables.Tables.holders.Goals as goal
-use Rattle.scheduler.proofs.tables.Tables.holders.Goals.{then-counts+in-Some, then-counts+in-default, else-counts}
+use Rattle.scheduler.proofs.tables.Tables.holders.Goals.{then-counts+in-Some, then-counts+in_default, else-counts}
 
 nobody : (b : Bool) → false ≡ (b && false)
 nobody b = elim b as (λ x. false ≡ (x && false)) [ true ↦ refl | false ↦ refl ]
@@ -34,7 +34,7 @@ loop-lock-preserved c =
                 (held_add os T.begins T.rising ls k c.args.block c.args.kind in' c.loop-lock.holders w.in-Some.place w.with.result H (sym w.if-counts.ensures) w.in-Some.ensures lt
                 (λ a. w.with.ensures a ∙ ap (λ (n : ℕ). has (get_or c.loop-lock.holders n no_places).bits a || eqb w.in-Some.place a) w.from-j.ensures)),
           )
-      | then-counts+in-default w ↦ rw w.holders-is (c.loop-lock.invariant.0, c.loop-lock.invariant.1, held_gone os T.begins T.rising ls k c.args.block c.args.kind in' c.loop-lock.holders H w.in-default.ensures)
+      | then-counts+in_default w ↦ rw w.holders-is (c.loop-lock.invariant.0, c.loop-lock.invariant.1, held_gone os T.begins T.rising ls k c.args.block c.args.kind in' c.loop-lock.holders H w.in_default.ensures)
       | else-counts w ↦ rw w.holders-is (c.loop-lock.invariant.0, c.loop-lock.invariant.1, held_skip os T.begins T.rising ls k c.args.block c.args.kind in' c.loop-lock.holders H (sym w.if-counts.ensures))
     ]
 

@@ -4,8 +4,8 @@ use Rattle.scheduler.specs.Arrays.{open_list}
 use Rattle.scheduler.proofs.Rising.{rising-set}
 use Rattle.scheduler.proofs.tables.Tables.restate.Goals as goal
 
-pub invariant-of-self : goal.invariant-of-self
-invariant-of-self c =
+pub invariant_of-self : goal.invariant_of-self
+invariant_of-self c =
     let os = open_list c.args.self.now.open in
     let p = c.restate.ensures in (
       c.args.self.now.counted,

@@ -18,7 +18,7 @@ loop-block-preserved g c =
     let ls = lock_list c.args.self.now.locks.inner in
     let k = c.loop-block.block in
     elim c.if-contains.branch [
-      | then-contains w ↦ rw w.rows-is (upto_add ok os ls k c.loop-block.rows _ _ c.loop-block.invariant w.add-asks.ensures w.add-commits.ensures)
+      | then-contains w ↦ rw w.rows-is (upto_add ok os ls k c.loop-block.rows _ _ c.loop-block.invariant w.add_asks.ensures w.add_commits.ensures)
       | else-contains w ↦ rw w.rows-is (upto_skip ok os ls k c.blocks-blocks.result.bits c.loop-block.rows c.blocks-blocks.ensures
           (ap (has c.blocks-blocks.result.bits) (sym c.from.ensures) ∙ sym w.if-contains.ensures) c.loop-block.invariant)
     ]

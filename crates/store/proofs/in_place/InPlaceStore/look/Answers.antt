@@ -2,7 +2,7 @@ use Rattle.std.proofs.Common.{◌≡◌, ◌<◌, get_or, pos, Some, Ok, sym, ap
 use Rattle.std.proofs.lemmas.Int.{to_z-of_z}
 use Rattle.store.proofs.Images.{length_behind}
 use Rattle.store.proofs.in_place.InPlaceStore.look.Goals as goal
-use Rattle.store.proofs.in_place.InPlaceStore.look.Goals.{in-Some+else-images-k, in-default}
+use Rattle.store.proofs.in_place.InPlaceStore.look.Goals.{in-Some+else-images-k, in_default}
 use Rattle.store.proofs.Puts.{look_none, look_other, look_own}
 use Rattle.store.specs.Entries.{blank, entries, first, is_on, size_of}
 use Rattle.store.specs.Soundness.{few_entries}
@@ -34,5 +34,5 @@ returns c =
     ap Ok (to_z-of_z w32 x fits)
     ∙ sym (elim c.match-on.branch [
       | in-Some+else-images-k w ↦ look_own es s.values.now c.args.t i (few_entries s.images s.fits) s.bounded s.apart in' (get_or c.list-images.result.now w.in-Some.k blank) (sym on ∙ w.in-Some.ensures.1) w.if-images-k.false
-      | in-default w ↦ look_none es s.values.now c.args.t i (few_entries s.images s.fits) s.bounded s.apart in' (sym on ∙ w.in-default.ensures)
+      | in_default w ↦ look_none es s.values.now c.args.t i (few_entries s.images s.fits) s.bounded s.apart in' (sym on ∙ w.in_default.ensures)
     ])

@@ -6,8 +6,8 @@ use Rattle.store.specs.declared.table.Entry.{Entry}
 use Rattle.store.specs.Entries.{apart, bounded, entries, others, same_item, size_of}
 use Rattle.store.specs.Slices.{committed_behind, pending_in}
 
-pub invariant-of-self : goal.invariant-of-self
-invariant-of-self c =
+pub invariant_of-self : goal.invariant_of-self
+invariant_of-self c =
     let s = c.args.self.now in
     let es = entries s.images in
     let n = size_of s.values.now in

@@ -47,8 +47,8 @@ returns-then-self-eq-ROOM c =
 pub bounds-self-i : goal.bounds-self-i
 bounds-self-i c = let s = c.args.self.now in omega (arith, length_behind (entries s.images) s.values.now)
 
-pub invariant-of-self : goal.invariant-of-self
-invariant-of-self c =
+pub invariant_of-self : goal.invariant_of-self
+invariant_of-self c =
     let s = c.args.self.now in
     let es = entries s.images in
     let n = size_of s.values.now in

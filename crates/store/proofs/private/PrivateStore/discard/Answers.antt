@@ -4,8 +4,8 @@ use Rattle.store.proofs.private.PrivateStore.discard.Goals as goal
 use Rattle.store.proofs.Workspace.{found_kept}
 use Rattle.store.specs.Entries.{apart, bounded, count_of, entries, found, others, same_pair, size_of}
 
-pub invariant-of-self : goal.invariant-of-self
-invariant-of-self c =
+pub invariant_of-self : goal.invariant_of-self
+invariant_of-self c =
     let s = c.args.self.now in
     let es = entries s.writes in
     let n = size_of s.values.now in

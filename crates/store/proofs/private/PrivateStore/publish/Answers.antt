@@ -14,8 +14,8 @@ land-requires c =
     let vs = s.values.now in
     ap (bounded (length vs)) c.list.ensures.value ∙ bounded-more (size_of vs) (length vs) (entries s.writes) (omega arith) s.bounded
 
-pub invariant-of-self : goal.invariant-of-self
-invariant-of-self c =
+pub invariant_of-self : goal.invariant_of-self
+invariant_of-self c =
     let s = c.args.self.now in
     let t = c.args.t in
     let es = entries s.writes in

@@ -13,8 +13,8 @@ use Rattle.store.specs.Meaning.{answered, of_store, refused}
 use Rattle.store.specs.Slices.{items}
 use Rattle.store.specs.Soundness.{few_entries}
 
-pub invariant-of-self : goal.invariant-of-self
-invariant-of-self c =
+pub invariant_of-self : goal.invariant_of-self
+invariant_of-self c =
     let s = c.args.self.now in
     let es = entries s.writes in
     let n = size_of s.values.now in
@@ -47,15 +47,15 @@ returns-then-self-eq-ROOM c =
     let i = c.args.item in
     let few = few_entries s.writes s.fits in
     let in' : i < size_of vs = omega (arith, length_items vs) in
-    let none : found es t i ≡ None = sym (ap (λ (l : List Entry). found l t i) c.list.ensures.value) ∙ c.in-default.ensures in
+    let none : found es t i ≡ None = sym (ap (λ (l : List Entry). found l t i) c.list.ensures.value) ∙ c.in_default.ensures in
     let why : refused true 512 64 (items vs) (found es) t i ≡ Some (of_store NoRoom) = elim c.then-self-eq-ROOM.branch [
       | then-self-eq-ROOM-via-then-self-eq-ROOM w ↦ put_full es vs t i few s.bounded s.apart in' none (sym (ap length c.list.ensures.value) ∙ c.list.ensures.long ∙ w.if-self-eq-ROOM.true)
       | then-self-eq-ROOM-via-else-self-eq-ROOM+then-count-ge-SHARE w ↦ put_over es vs t i few s.bounded s.apart in' none (omega (arith, w.if-count-ge-SHARE.true, w.count.ensures ∙ ap (count_of t) w.list-else-self-eq-ROOM.ensures.value))
     ] in
     record { answer = ap Err c.refusal-then-self-eq-ROOM.ensures ∙ sym (ap answered why); committed = refl; pending = refl; place = refl }
 
-pub invariant-of-self-2 : goal.invariant-of-self-2
-invariant-of-self-2 c =
+pub invariant_of-self-2 : goal.invariant_of-self-2
+invariant_of-self-2 c =
     let s = c.args.self.now in
     let es = entries s.writes in
     let vs = s.values.now in
@@ -63,7 +63,7 @@ invariant-of-self-2 c =
     let t = c.args.t in
     let i = c.args.item in
     let in' : i < n = omega (arith, length_items vs) in
-    let none : first (is_pair t i) es ≡ None = unfound es t i (sym (ap (λ (l : List Entry). found l t i) c.list.ensures.value) ∙ c.in-default.ensures) in
+    let none : first (is_pair t i) es ≡ None = unfound es t i (sym (ap (λ (l : List Entry). found l t i) c.list.ensures.value) ∙ c.in_default.ensures) in
     let more = c.push.ensures.entries in
     let small : t < 65536 = omega arith in
     let count : count_of t es < 64 = omega (arith, c.if-count-ge-SHARE.false, c.count.ensures ∙ ap (count_of t) c.list-else-self-eq-ROOM.ensures.value) in
@@ -78,7 +78,7 @@ returns c =
     let i = c.args.item in
     let few = few_entries s.writes s.fits in
     let in' : i < size_of vs = omega (arith, length_items vs) in
-    let none : found es t i ≡ None = sym (ap (λ (l : List Entry). found l t i) c.list.ensures.value) ∙ c.in-default.ensures in
+    let none : found es t i ≡ None = sym (ap (λ (l : List Entry). found l t i) c.list.ensures.value) ∙ c.in_default.ensures in
     let long : length es ≡ s.writes.len = sym (ap length c.list.ensures.value) ∙ c.list.ensures.long in
     let room : length es < 512 = omega (arith, few, c.if-self-eq-ROOM.false) in
     let share : count_of t es < 64 = omega (arith, c.if-count-ge-SHARE.false, c.count.ensures ∙ ap (count_of t) c.list-else-self-eq-ROOM.ensures.value) in
