@@ -28,8 +28,8 @@ pub fn run<S: Store + Drop, R: LockRule + Drop>(
     rule: R,
     calls: &[Request],
 ) -> Result<Finished<S, R>, AllocError>
-    ensures ran { IfOk result (λ f. Ran (allows rule) (terms private room share) (pair_refusal (allows rule) private (held_count (pending store) (length (committed store)))) (committed store) (pending store) calls.now f.answers.items (ledger_of f.scheduler.tables) (committed f.scheduler.store) (pending f.scheduler.store)) }
-    ensures same { IfOk result (λ f. (f.scheduler.rule ≡ rule) × (f.scheduler.refusal ≡ pair_refusal (allows rule) private (held_count (pending store) (length (committed store)))) × (place f.scheduler.store ≡ place store)) }
+    ensures ran { IfOk result (λ f. Ran (R.allows rule) (terms S.private S.room S.share) (pair_refusal (R.allows rule) S.private (held_count (S.pending store) (length (S.committed store)))) (S.committed store) (S.pending store) calls.now f.answers.items (ledger_of f.scheduler.tables) (S.committed f.scheduler.store) (S.pending f.scheduler.store)) }
+    ensures same { IfOk result (λ f. (f.scheduler.rule ≡ rule) × (f.scheduler.refusal ≡ pair_refusal (R.allows rule) S.private (held_count (S.pending store) (length (S.committed store)))) × (S.place f.scheduler.store ≡ S.place store)) }
 {
     let mut answers = Vec::with_capacity(heap, calls.len())?;
     let mut scheduler = Scheduler::open(store, rule);

@@ -14,8 +14,8 @@ use tickets::ticket::Active;
 impl Posting {
     /// Makes the next call, and tells what it comes to.
     pub fn step<S: Store, R: LockRule>(self, scheduler: &mut Scheduler<S, R>) -> Turn
-        ensures taken { Taken (allows scheduler.old.rule) (terms private room share) scheduler.old.refusal (situation scheduler.old.tables (committed scheduler.old.store) (pending scheduler.old.store)) (situation scheduler.new.tables (committed scheduler.new.store) (pending scheduler.new.store)) self result }
-        ensures same { (scheduler.new.rule ≡ scheduler.old.rule) × (scheduler.new.refusal ≡ scheduler.old.refusal) × (place scheduler.new.store ≡ place scheduler.old.store) }
+        ensures taken { Taken (R.allows scheduler.old.rule) (terms S.private S.room S.share) scheduler.old.refusal (situation scheduler.old.tables (S.committed scheduler.old.store) (S.pending scheduler.old.store)) (situation scheduler.new.tables (S.committed scheduler.new.store) (S.pending scheduler.new.store)) self result }
+        ensures same { (scheduler.new.rule ≡ scheduler.old.rule) × (scheduler.new.refusal ≡ scheduler.old.refusal) × (S.place scheduler.new.store ≡ S.place scheduler.old.store) }
         ensures sooner { Sooner self result }
     {
         let Posting { game, stage } = self;

@@ -60,7 +60,7 @@ impl Tables {
 
     /// One of those that block what the transaction asks for.
     pub(crate) fn blocker<R: LockRule>(&self, rule: &R, t: u16, ask: Ask) -> Option<u16>
-        ensures { Picked result (blockers (allows rule.now) (lock_list self.now.locks.inner) t ask) }
+        ensures { Picked result (blockers (R.allows rule.now) (lock_list self.now.locks.inner) t ask) }
     {
         search::blocker(self.locks.list(), rule, t, ask)
     }

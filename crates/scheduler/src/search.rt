@@ -39,14 +39,14 @@ pub(crate) fn holds_any(locks: &[Lock], t: u16, item: u16) -> bool
 
 /// Whether `lock` is another transaction's on the item, and the rule says no to the kind beside it.
 fn bars<R: LockRule>(lock: Lock, rule: &R, t: u16, item: u16, kind: Kind) -> bool
-    ensures { result ≡ bars (allows rule.now) t item kind lock }
+    ensures { result ≡ bars (R.allows rule.now) t item kind lock }
 {
     lock.owner != t && lock.item == item && !rule.allows(kind, lock.kind)
 }
 
 /// Another transaction with such a lock.
 fn barring<R: LockRule>(locks: &[Lock], rule: &R, t: u16, item: u16, kind: Kind) -> Option<u16>
-    ensures { Picked result (barring (allows rule.now) t item kind locks.now) }
+    ensures { Picked result (barring (R.allows rule.now) t item kind locks.now) }
 {
     for lock in locks {
         if bars(*lock, rule, t, item, kind) {
@@ -83,7 +83,7 @@ fn ahead(locks: &[Lock], t: u16) -> Option<u16>
 
 /// One of those that block what the transaction asks for.
 pub(crate) fn blocker<R: LockRule>(locks: &[Lock], rule: &R, t: u16, ask: Ask) -> Option<u16>
-    ensures { Picked result (blockers (allows rule.now) locks.now t ask) }
+    ensures { Picked result (blockers (R.allows rule.now) locks.now t ask) }
 {
     match ask {
         Ask::Read { item } => {

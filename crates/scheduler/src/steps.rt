@@ -38,7 +38,7 @@ fn refusal(reason: Reason) -> Refusal
 
 /// Whether a rule and a store go together.
 fn pair_refusal<S: Store, R: LockRule>(store: &S, rule: &R) -> Option<Refusal>
-    ensures { result ≡ pair_refusal (allows rule.now) private (held_count (pending store.now) (length (committed store.now))) }
+    ensures { result ≡ pair_refusal (R.allows rule.now) S.private (held_count (S.pending store.now) (length (S.committed store.now))) }
 {
     if rule.allows(Kind::Write, Kind::Write) && !S::is_private() {
         return Some(refusal(Reason::Pair));
@@ -54,7 +54,7 @@ impl<S: Store, R: LockRule> Scheduler<S, R> {
     pub fn open(store: S, rule: R) -> Scheduler<S, R>
         ensures store { result.store ≡ store }
         ensures rule { result.rule ≡ rule }
-        ensures refusal { result.refusal ≡ pair_refusal (allows rule) private (held_count (pending store) (length (committed store))) }
+        ensures refusal { result.refusal ≡ pair_refusal (R.allows rule) S.private (held_count (S.pending store) (length (S.committed store))) }
         ensures tables { ledger_of result.tables ≡ empty }
     {
         let refusal = pair_refusal(&store, &rule);
@@ -91,10 +91,10 @@ impl<S: Store, R: LockRule> Scheduler<S, R> {
     /// A read that nobody blocks.
     fn grant_read(&mut self, i: usize, t: u16, item: u16) -> Result<Reply, Refusal>
         requires at { At (open_list self.old.tables.«open») t i }
-        requires free { blockers (allows self.old.rule) (ledger_of self.old.tables).locks t (AskRead item) ≡ [] }
-        ensures answer { result ≡ granted (terms private room share) (ledger_of self.old.tables) (committed self.old.store) (pending self.old.store) t (AskRead item) }
-        ensures step { Stepped (Some (AskRead item)) result (situation self.old.tables (committed self.old.store) (pending self.old.store)) (situation self.new.tables (committed self.new.store) (pending self.new.store)) }
-        ensures same { (self.new.rule ≡ self.old.rule) × (self.new.refusal ≡ self.old.refusal) × (place self.new.store ≡ place self.old.store) }
+        requires free { blockers (R.allows self.old.rule) (ledger_of self.old.tables).locks t (AskRead item) ≡ [] }
+        ensures answer { result ≡ granted (terms S.private S.room S.share) (ledger_of self.old.tables) (S.committed self.old.store) (S.pending self.old.store) t (AskRead item) }
+        ensures step { Stepped (Some (AskRead item)) result (situation self.old.tables (S.committed self.old.store) (S.pending self.old.store)) (situation self.new.tables (S.committed self.new.store) (S.pending self.new.store)) }
+        ensures same { (self.new.rule ≡ self.old.rule) × (self.new.refusal ≡ self.old.refusal) × (S.place self.new.store ≡ S.place self.old.store) }
     {
         let locked = search::holds_any(self.tables.locks.list(), t, item);
         if self.tables.lacks_room(locked) {
@@ -116,9 +116,9 @@ impl<S: Store, R: LockRule> Scheduler<S, R> {
     /// A write that nobody blocks.
     fn grant_write(&mut self, i: usize, t: u16, item: u16, value: i32) -> Result<Reply, Refusal>
         requires at { At (open_list self.old.tables.«open») t i }
-        ensures answer { result ≡ granted (terms private room share) (ledger_of self.old.tables) (committed self.old.store) (pending self.old.store) t (AskWrite item value) }
-        ensures step { Stepped (Some (AskWrite item value)) result (situation self.old.tables (committed self.old.store) (pending self.old.store)) (situation self.new.tables (committed self.new.store) (pending self.new.store)) }
-        ensures same { (self.new.rule ≡ self.old.rule) × (self.new.refusal ≡ self.old.refusal) × (place self.new.store ≡ place self.old.store) }
+        ensures answer { result ≡ granted (terms S.private S.room S.share) (ledger_of self.old.tables) (S.committed self.old.store) (S.pending self.old.store) t (AskWrite item value) }
+        ensures step { Stepped (Some (AskWrite item value)) result (situation self.old.tables (S.committed self.old.store) (S.pending self.old.store)) (situation self.new.tables (S.committed self.new.store) (S.pending self.new.store)) }
+        ensures same { (self.new.rule ≡ self.old.rule) × (self.new.refusal ≡ self.old.refusal) × (S.place self.new.store ≡ S.place self.old.store) }
     {
         let locked = search::holds(self.tables.locks.list(), t, item, Kind::Write);
         if self.tables.lacks_room(locked) {
@@ -140,10 +140,10 @@ impl<S: Store, R: LockRule> Scheduler<S, R> {
     /// What nobody blocks.
     fn grant(&mut self, i: usize, t: u16, ask: Ask) -> Result<Reply, Refusal>
         requires at { At (open_list self.old.tables.«open») t i }
-        requires free { blockers (allows self.old.rule) (ledger_of self.old.tables).locks t ask ≡ [] }
-        ensures answer { result ≡ granted (terms private room share) (ledger_of self.old.tables) (committed self.old.store) (pending self.old.store) t ask }
-        ensures step { Stepped (Some ask) result (situation self.old.tables (committed self.old.store) (pending self.old.store)) (situation self.new.tables (committed self.new.store) (pending self.new.store)) }
-        ensures same { (self.new.rule ≡ self.old.rule) × (self.new.refusal ≡ self.old.refusal) × (place self.new.store ≡ place self.old.store) }
+        requires free { blockers (R.allows self.old.rule) (ledger_of self.old.tables).locks t ask ≡ [] }
+        ensures answer { result ≡ granted (terms S.private S.room S.share) (ledger_of self.old.tables) (S.committed self.old.store) (S.pending self.old.store) t ask }
+        ensures step { Stepped (Some ask) result (situation self.old.tables (S.committed self.old.store) (S.pending self.old.store)) (situation self.new.tables (S.committed self.new.store) (S.pending self.new.store)) }
+        ensures same { (self.new.rule ≡ self.old.rule) × (self.new.refusal ≡ self.old.refusal) × (S.place self.new.store ≡ S.place self.old.store) }
     {
         match ask {
             Ask::Read { item } => self.grant_read(i, t, item),
@@ -159,10 +159,10 @@ impl<S: Store, R: LockRule> Scheduler<S, R> {
     /// What `blocker` and perhaps others block.
     fn block(&mut self, i: usize, t: u16, ask: Ask, blocker: u16) -> Reply
         requires at { At (open_list self.old.tables.«open») t i }
-        requires blocker { In blocker (blockers (allows self.old.rule) (ledger_of self.old.tables).locks t ask) }
-        ensures answer { Blocked (allows self.old.rule) (ledger_of self.old.tables) t (blockers (allows self.old.rule) (ledger_of self.old.tables).locks t ask) (Ok result) }
-        ensures step { Stepped (Some ask) (Ok result) (situation self.old.tables (committed self.old.store) (pending self.old.store)) (situation self.new.tables (committed self.new.store) (pending self.new.store)) }
-        ensures same { (self.new.rule ≡ self.old.rule) × (self.new.refusal ≡ self.old.refusal) × (place self.new.store ≡ place self.old.store) }
+        requires blocker { In blocker (blockers (R.allows self.old.rule) (ledger_of self.old.tables).locks t ask) }
+        ensures answer { Blocked (R.allows self.old.rule) (ledger_of self.old.tables) t (blockers (R.allows self.old.rule) (ledger_of self.old.tables).locks t ask) (Ok result) }
+        ensures step { Stepped (Some ask) (Ok result) (situation self.old.tables (S.committed self.old.store) (S.pending self.old.store)) (situation self.new.tables (S.committed self.new.store) (S.pending self.new.store)) }
+        ensures same { (self.new.rule ≡ self.old.rule) × (self.new.refusal ≡ self.old.refusal) × (S.place self.new.store ≡ S.place self.old.store) }
     {
         self.tables.restate(i, State::Waiting(ask));
         if self.tables.closes_circle(&self.rule, i) {
@@ -176,9 +176,9 @@ impl<S: Store, R: LockRule> Scheduler<S, R> {
     /// Tries what the transaction asks for.
     fn attempt(&mut self, i: usize, t: u16, ask: Ask) -> Result<Reply, Refusal>
         requires at { At (open_list self.old.tables.«open») t i }
-        ensures answer { Placed (allows self.old.rule) (terms private room share) (ledger_of self.old.tables) (committed self.old.store) (pending self.old.store) t ask (no_item (length (committed self.old.store)) ask) result }
-        ensures step { Stepped (Some ask) result (situation self.old.tables (committed self.old.store) (pending self.old.store)) (situation self.new.tables (committed self.new.store) (pending self.new.store)) }
-        ensures same { (self.new.rule ≡ self.old.rule) × (self.new.refusal ≡ self.old.refusal) × (place self.new.store ≡ place self.old.store) }
+        ensures answer { Placed (R.allows self.old.rule) (terms S.private S.room S.share) (ledger_of self.old.tables) (S.committed self.old.store) (S.pending self.old.store) t ask (no_item (length (S.committed self.old.store)) ask) result }
+        ensures step { Stepped (Some ask) result (situation self.old.tables (S.committed self.old.store) (S.pending self.old.store)) (situation self.new.tables (S.committed self.new.store) (S.pending self.new.store)) }
+        ensures same { (self.new.rule ≡ self.old.rule) × (self.new.refusal ≡ self.old.refusal) × (S.place self.new.store ≡ S.place self.old.store) }
     {
         if ask.exceeds(self.store.size()) {
             return Err(refusal(Reason::NoSuchItem));
@@ -191,9 +191,9 @@ impl<S: Store, R: LockRule> Scheduler<S, R> {
 
     /// A call to an open transaction, by its own state.
     fn submit(&mut self, t: u16, call: Call) -> Result<Reply, Refusal>
-        ensures answer { Done (allows self.old.rule) (terms private room share) (ledger_of self.old.tables) (committed self.old.store) (pending self.old.store) (called t call (state_of t (ledger_of self.old.tables).opens)) result }
-        ensures step { Stepped (sought call (state_of t (ledger_of self.old.tables).opens)) result (situation self.old.tables (committed self.old.store) (pending self.old.store)) (situation self.new.tables (committed self.new.store) (pending self.new.store)) }
-        ensures same { (self.new.rule ≡ self.old.rule) × (self.new.refusal ≡ self.old.refusal) × (place self.new.store ≡ place self.old.store) }
+        ensures answer { Done (R.allows self.old.rule) (terms S.private S.room S.share) (ledger_of self.old.tables) (S.committed self.old.store) (S.pending self.old.store) (called t call (state_of t (ledger_of self.old.tables).opens)) result }
+        ensures step { Stepped (sought call (state_of t (ledger_of self.old.tables).opens)) result (situation self.old.tables (S.committed self.old.store) (S.pending self.old.store)) (situation self.new.tables (S.committed self.new.store) (S.pending self.new.store)) }
+        ensures same { (self.new.rule ≡ self.old.rule) × (self.new.refusal ≡ self.old.refusal) × (S.place self.new.store ≡ S.place self.old.store) }
     {
         let Some(i) = self.tables.find(t) else {
             return Err(refusal(Reason::NotOpen));
@@ -213,9 +213,9 @@ impl<S: Store, R: LockRule> Scheduler<S, R> {
 
     /// Opens a transaction.
     fn begin(&mut self) -> Result<Reply, Refusal>
-        ensures answer { Done (allows self.old.rule) (terms private room share) (ledger_of self.old.tables) (committed self.old.store) (pending self.old.store) (checked (ledger_of self.old.tables) Begin) result }
-        ensures step { Stepped None result (situation self.old.tables (committed self.old.store) (pending self.old.store)) (situation self.new.tables (committed self.new.store) (pending self.new.store)) }
-        ensures same { (self.new.rule ≡ self.old.rule) × (self.new.refusal ≡ self.old.refusal) × (place self.new.store ≡ place self.old.store) }
+        ensures answer { Done (R.allows self.old.rule) (terms S.private S.room S.share) (ledger_of self.old.tables) (S.committed self.old.store) (S.pending self.old.store) (checked (ledger_of self.old.tables) Begin) result }
+        ensures step { Stepped None result (situation self.old.tables (S.committed self.old.store) (S.pending self.old.store)) (situation self.new.tables (S.committed self.new.store) (S.pending self.new.store)) }
+        ensures same { (self.new.rule ≡ self.old.rule) × (self.new.refusal ≡ self.old.refusal) × (S.place self.new.store ≡ S.place self.old.store) }
     {
         if self.transactions().len() >= OPEN {
             return Err(refusal(Reason::TooManyOpen));
@@ -230,9 +230,9 @@ impl<S: Store, R: LockRule> Scheduler<S, R> {
 
     /// Makes one call.
     pub fn call(&mut self, request: Request) -> Result<Reply, Refusal>
-        ensures answer { Answers (allows self.old.rule) (terms private room share) self.old.refusal (ledger_of self.old.tables) (committed self.old.store) (pending self.old.store) request result }
-        ensures step { Stepped (asked (ledger_of self.old.tables) request) result (situation self.old.tables (committed self.old.store) (pending self.old.store)) (situation self.new.tables (committed self.new.store) (pending self.new.store)) }
-        ensures same { (self.new.rule ≡ self.old.rule) × (self.new.refusal ≡ self.old.refusal) × (place self.new.store ≡ place self.old.store) }
+        ensures answer { Answers (R.allows self.old.rule) (terms S.private S.room S.share) self.old.refusal (ledger_of self.old.tables) (S.committed self.old.store) (S.pending self.old.store) request result }
+        ensures step { Stepped (asked (ledger_of self.old.tables) request) result (situation self.old.tables (S.committed self.old.store) (S.pending self.old.store)) (situation self.new.tables (S.committed self.new.store) (S.pending self.new.store)) }
+        ensures same { (self.new.rule ≡ self.old.rule) × (self.new.refusal ≡ self.old.refusal) × (S.place self.new.store ≡ S.place self.old.store) }
     {
         if let Some(refusal) = self.refusal {
             return Err(refusal);

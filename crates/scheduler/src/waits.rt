@@ -29,7 +29,7 @@ fn counts(lock: Lock, kind: Kind, block: u16) -> bool
 
 /// Of the holders of read and of write locks, those beside which the rule says no to the kind.
 fn barring<R: LockRule>(rule: &R, kind: Kind, readers: Places, writers: Places) -> Places
-    ensures { (a : ℕ) → has result.bits a ≡ ((not (allows rule.now kind Read) && has readers.bits a) || (not (allows rule.now kind Write) && has writers.bits a)) }
+    ensures { (a : ℕ) → has result.bits a ≡ ((not (R.allows rule.now kind Read) && has readers.bits a) || (not (R.allows rule.now kind Write) && has writers.bits a)) }
 {
     let some = if rule.allows(kind, Kind::Read) {
         Places::none()
@@ -86,7 +86,7 @@ impl Tables {
         requires within { b < self.now.«open».len }
         requires readers { Held (open_list self.now.«open») (lock_list self.now.locks.inner) block Read readers.now }
         requires writers { Held (open_list self.now.«open») (lock_list self.now.locks.inner) block Write writers.now }
-        ensures { (a : ℕ) → a < 64 → has result.bits a ≡ between (open_list self.now.«open») (asks (in_block block) (allows rule.now) (lock_list self.now.locks.inner)) b a }
+        ensures { (a : ℕ) → a < 64 → has result.bits a ≡ between (open_list self.now.«open») (asks (in_block block) (R.allows rule.now) (lock_list self.now.locks.inner)) b a }
     {
         let State::Waiting(ask) = self.state(b) else {
             return Places::none();
@@ -118,7 +118,7 @@ impl Tables {
     )
         requires readers { Held (open_list self.now.«open») (lock_list self.now.locks.inner) block Read readers.now }
         requires writers { Held (open_list self.now.«open») (lock_list self.now.locks.inner) block Write writers.now }
-        ensures { More (open_list self.now.«open») (asks (in_block block) (allows rule.now) (lock_list self.now.locks.inner)) rows.old rows.new }
+        ensures { More (open_list self.now.«open») (asks (in_block block) (R.allows rule.now) (lock_list self.now.locks.inner)) rows.old rows.new }
     {
         for b in 0..self.open.len {
             rows[b] = rows[b].union(self.asked_in(rule, block, b, readers, writers));
@@ -145,7 +145,7 @@ impl Tables {
 
     /// For each place, the places of those that its transaction waits for.
     fn wait_rows<R: LockRule>(&self, rule: &R) -> [Places; OPEN]
-        ensures { Drawn (allows rule.now) (ledger_of self.now) result }
+        ensures { Drawn (R.allows rule.now) (ledger_of self.now) result }
     {
         let mut rows = [Places { bits: 0 }; OPEN];
         let blocks = self.blocks();
@@ -163,7 +163,7 @@ impl Tables {
     /// Whether the transaction at the place `i` waits for somebody from whom a chain of waits leads back to it.
     pub(crate) fn closes_circle<R: LockRule>(&self, rule: &R, i: usize) -> bool
         requires { i < self.now.«open».len }
-        ensures { Decides result (Circle (allows rule.now) (ledger_of self.now) (slice_index_or (open_list self.now.«open») i no_transaction).number) }
+        ensures { Decides result (Circle (R.allows rule.now) (ledger_of self.now) (slice_index_or (open_list self.now.«open») i no_transaction).number) }
     {
         let rows = self.wait_rows(rule);
         let leading = leading_to(&rows, i);

@@ -34,7 +34,7 @@ fn push_value(out: &mut Vec<u8>, item: u16, value: i32) -> Result<(), AllocError
 
 /// Each value other than 0, by rising item.
 pub(crate) fn push_values<S: Store>(out: &mut Vec<u8>, store: &S) -> Result<(), AllocError>
-    ensures { OnOk result (out.new.items ≡ out.old.items ++ bytes_of (holding 0 (laid (pending store.now 0) (committed store.now)))) }
+    ensures { OnOk result (out.new.items ≡ out.old.items ++ bytes_of (holding 0 (laid (S.pending store.now 0) (S.committed store.now)))) }
 {
     for index in 0..store.size() {
         let item = index as u16;

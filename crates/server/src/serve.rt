@@ -34,7 +34,7 @@ fn answer_all<S: Store + Drop, R: LockRule + Drop>(
     rule: R,
     input: &[u8],
 ) -> Result<(Vec<u8>, Scheduler<S, R>), AllocError>
-    ensures { IfOk result (λ a. Answered (allows rule) (terms private room share) (pair_refusal (allows rule) private (held_count (pending store) (length (committed store)))) (committed store) (pending store) input.now a.0.items (ledger_of a.1.tables) (committed a.1.store) (pending a.1.store)) }
+    ensures { IfOk result (λ a. Answered (R.allows rule) (terms S.private S.room S.share) (pair_refusal (R.allows rule) S.private (held_count (S.pending store) (length (S.committed store)))) (S.committed store) (S.pending store) input.now a.0.items (ledger_of a.1.tables) (S.committed a.1.store) (S.pending a.1.store)) }
 {
     let (found, ending) = requests_in(heap, input)?;
     let calls = requests(heap, &found)?;
@@ -53,7 +53,7 @@ pub fn serve<S: Store + Drop, R: LockRule + Drop>(
     rule: R,
     input: &[u8],
 ) -> Result<Vec<u8>, AllocError>
-    ensures { IfOk result (λ out. Output (allows rule) (terms private room share) (pair_refusal (allows rule) private (held_count (pending store) (length (committed store)))) (committed store) (pending store) input.now out.items) }
+    ensures { IfOk result (λ out. Output (R.allows rule) (terms S.private S.room S.share) (pair_refusal (R.allows rule) S.private (held_count (S.pending store) (length (S.committed store)))) (S.committed store) (S.pending store) input.now out.items) }
 {
     let (mut output, scheduler) = answer_all(heap, store, rule, input)?;
     if input.len() > LIMIT {

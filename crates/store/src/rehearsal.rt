@@ -15,13 +15,13 @@ pub struct Write {
 /// Makes the transaction's writes one after another, then drops all that the transaction has pending. Says how many
 /// were accepted. To everybody else, and to the transaction where it had nothing pending, it is as if nothing had been.
 pub fn rehearse<S: Store>(store: &mut S, t: u16, writes: &[Write]) -> usize
-    ensures accepted { result ≡ accepted private room share (committed store.old) (pending store.old) t writes.now }
-    ensures committed { committed store.new ≡ committed store.old }
-    ensures pending { pending store.new ≡ without (pending store.old) t }
-    ensures untouched { ((i : ℕ) → pending store.old t i ≡ None) → pending store.new ≡ pending store.old }
-    ensures others { (u i : ℕ) → (u ≢ t) → looked (committed store.new) (pending store.new) u i ≡ looked (committed store.old) (pending store.old) u i }
-    ensures own { (i : ℕ) → pending store.old t i ≡ None → looked (committed store.new) (pending store.new) t i ≡ looked (committed store.old) (pending store.old) t i }
-    ensures place { place store.new ≡ place store.old }
+    ensures accepted { result ≡ accepted S.private S.room S.share (S.committed store.old) (S.pending store.old) t writes.now }
+    ensures committed { S.committed store.new ≡ S.committed store.old }
+    ensures pending { S.pending store.new ≡ without (S.pending store.old) t }
+    ensures untouched { ((i : ℕ) → S.pending store.old t i ≡ None) → S.pending store.new ≡ S.pending store.old }
+    ensures others { (u i : ℕ) → (u ≢ t) → looked (S.committed store.new) (S.pending store.new) u i ≡ looked (S.committed store.old) (S.pending store.old) u i }
+    ensures own { (i : ℕ) → S.pending store.old t i ≡ None → looked (S.committed store.new) (S.pending store.new) t i ≡ looked (S.committed store.old) (S.pending store.old) t i }
+    ensures place { S.place store.new ≡ S.place store.old }
 {
     let mut count = 0;
     for w in writes {

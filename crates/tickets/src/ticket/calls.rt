@@ -20,9 +20,9 @@ use store::store::Store;
 impl Active {
     /// Opens a transaction.
     pub fn begin<S: Store, R: LockRule>(scheduler: &mut Scheduler<S, R>) -> Result<Active, Refusal>
-        ensures answer { Answers (allows scheduler.old.rule) (terms private room share) scheduler.old.refusal (ledger_of scheduler.old.tables) (committed scheduler.old.store) (pending scheduler.old.store) Begin (begin_answer result) }
-        ensures step { Stepped (asked (ledger_of scheduler.old.tables) Begin) (begin_answer result) (situation scheduler.old.tables (committed scheduler.old.store) (pending scheduler.old.store)) (situation scheduler.new.tables (committed scheduler.new.store) (pending scheduler.new.store)) }
-        ensures same { (scheduler.new.rule ≡ scheduler.old.rule) × (scheduler.new.refusal ≡ scheduler.old.refusal) × (place scheduler.new.store ≡ place scheduler.old.store) }
+        ensures answer { Answers (R.allows scheduler.old.rule) (terms S.private S.room S.share) scheduler.old.refusal (ledger_of scheduler.old.tables) (S.committed scheduler.old.store) (S.pending scheduler.old.store) Begin (begin_answer result) }
+        ensures step { Stepped (asked (ledger_of scheduler.old.tables) Begin) (begin_answer result) (situation scheduler.old.tables (S.committed scheduler.old.store) (S.pending scheduler.old.store)) (situation scheduler.new.tables (S.committed scheduler.new.store) (S.pending scheduler.new.store)) }
+        ensures same { (scheduler.new.rule ≡ scheduler.old.rule) × (scheduler.new.refusal ≡ scheduler.old.refusal) × (S.place scheduler.new.store ≡ S.place scheduler.old.store) }
     {
         match scheduler.call(Request::Begin)? {
             Reply::Opened { t } => Ok(Active { number: t }),
@@ -32,9 +32,9 @@ impl Active {
 
     /// Reads an item.
     pub fn read<S: Store, R: LockRule>(self, scheduler: &mut Scheduler<S, R>, item: u16) -> Reading
-        ensures answer { Answers (allows scheduler.old.rule) (terms private room share) scheduler.old.refusal (ledger_of scheduler.old.tables) (committed scheduler.old.store) (pending scheduler.old.store) (Read self.number item) (read_answer self.number item result) }
-        ensures step { Stepped (asked (ledger_of scheduler.old.tables) (Read self.number item)) (read_answer self.number item result) (situation scheduler.old.tables (committed scheduler.old.store) (pending scheduler.old.store)) (situation scheduler.new.tables (committed scheduler.new.store) (pending scheduler.new.store)) }
-        ensures same { (scheduler.new.rule ≡ scheduler.old.rule) × (scheduler.new.refusal ≡ scheduler.old.refusal) × (place scheduler.new.store ≡ place scheduler.old.store) }
+        ensures answer { Answers (R.allows scheduler.old.rule) (terms S.private S.room S.share) scheduler.old.refusal (ledger_of scheduler.old.tables) (S.committed scheduler.old.store) (S.pending scheduler.old.store) (Read self.number item) (read_answer self.number item result) }
+        ensures step { Stepped (asked (ledger_of scheduler.old.tables) (Read self.number item)) (read_answer self.number item result) (situation scheduler.old.tables (S.committed scheduler.old.store) (S.pending scheduler.old.store)) (situation scheduler.new.tables (S.committed scheduler.new.store) (S.pending scheduler.new.store)) }
+        ensures same { (scheduler.new.rule ≡ scheduler.old.rule) × (scheduler.new.refusal ≡ scheduler.old.refusal) × (S.place scheduler.new.store ≡ S.place scheduler.old.store) }
         ensures number { ReadNumber self.number result }
     {
         let Active { number } = self;
@@ -49,9 +49,9 @@ impl Active {
         item: u16,
         value: i32,
     ) -> Writing
-        ensures answer { Answers (allows scheduler.old.rule) (terms private room share) scheduler.old.refusal (ledger_of scheduler.old.tables) (committed scheduler.old.store) (pending scheduler.old.store) (Write self.number item value) (write_answer self.number item result) }
-        ensures step { Stepped (asked (ledger_of scheduler.old.tables) (Write self.number item value)) (write_answer self.number item result) (situation scheduler.old.tables (committed scheduler.old.store) (pending scheduler.old.store)) (situation scheduler.new.tables (committed scheduler.new.store) (pending scheduler.new.store)) }
-        ensures same { (scheduler.new.rule ≡ scheduler.old.rule) × (scheduler.new.refusal ≡ scheduler.old.refusal) × (place scheduler.new.store ≡ place scheduler.old.store) }
+        ensures answer { Answers (R.allows scheduler.old.rule) (terms S.private S.room S.share) scheduler.old.refusal (ledger_of scheduler.old.tables) (S.committed scheduler.old.store) (S.pending scheduler.old.store) (Write self.number item value) (write_answer self.number item result) }
+        ensures step { Stepped (asked (ledger_of scheduler.old.tables) (Write self.number item value)) (write_answer self.number item result) (situation scheduler.old.tables (S.committed scheduler.old.store) (S.pending scheduler.old.store)) (situation scheduler.new.tables (S.committed scheduler.new.store) (S.pending scheduler.new.store)) }
+        ensures same { (scheduler.new.rule ≡ scheduler.old.rule) × (scheduler.new.refusal ≡ scheduler.old.refusal) × (S.place scheduler.new.store ≡ S.place scheduler.old.store) }
         ensures number { WriteNumber self.number result }
     {
         let Active { number } = self;
@@ -65,9 +65,9 @@ impl Active {
 
     /// Commits the transaction.
     pub fn commit<S: Store, R: LockRule>(self, scheduler: &mut Scheduler<S, R>) -> Committing
-        ensures answer { Answers (allows scheduler.old.rule) (terms private room share) scheduler.old.refusal (ledger_of scheduler.old.tables) (committed scheduler.old.store) (pending scheduler.old.store) (Commit self.number) (commit_answer self.number result) }
-        ensures step { Stepped (asked (ledger_of scheduler.old.tables) (Commit self.number)) (commit_answer self.number result) (situation scheduler.old.tables (committed scheduler.old.store) (pending scheduler.old.store)) (situation scheduler.new.tables (committed scheduler.new.store) (pending scheduler.new.store)) }
-        ensures same { (scheduler.new.rule ≡ scheduler.old.rule) × (scheduler.new.refusal ≡ scheduler.old.refusal) × (place scheduler.new.store ≡ place scheduler.old.store) }
+        ensures answer { Answers (R.allows scheduler.old.rule) (terms S.private S.room S.share) scheduler.old.refusal (ledger_of scheduler.old.tables) (S.committed scheduler.old.store) (S.pending scheduler.old.store) (Commit self.number) (commit_answer self.number result) }
+        ensures step { Stepped (asked (ledger_of scheduler.old.tables) (Commit self.number)) (commit_answer self.number result) (situation scheduler.old.tables (S.committed scheduler.old.store) (S.pending scheduler.old.store)) (situation scheduler.new.tables (S.committed scheduler.new.store) (S.pending scheduler.new.store)) }
+        ensures same { (scheduler.new.rule ≡ scheduler.old.rule) × (scheduler.new.refusal ≡ scheduler.old.refusal) × (S.place scheduler.new.store ≡ S.place scheduler.old.store) }
         ensures number { CommitNumber self.number result }
     {
         let Active { number } = self;
@@ -80,9 +80,9 @@ impl Active {
         self,
         scheduler: &mut Scheduler<S, R>,
     ) -> Result<(), Refusal>
-        ensures answer { Answers (allows scheduler.old.rule) (terms private room share) scheduler.old.refusal (ledger_of scheduler.old.tables) (committed scheduler.old.store) (pending scheduler.old.store) (Abort self.number) (abort_answer self.number result) }
-        ensures step { Stepped (asked (ledger_of scheduler.old.tables) (Abort self.number)) (abort_answer self.number result) (situation scheduler.old.tables (committed scheduler.old.store) (pending scheduler.old.store)) (situation scheduler.new.tables (committed scheduler.new.store) (pending scheduler.new.store)) }
-        ensures same { (scheduler.new.rule ≡ scheduler.old.rule) × (scheduler.new.refusal ≡ scheduler.old.refusal) × (place scheduler.new.store ≡ place scheduler.old.store) }
+        ensures answer { Answers (R.allows scheduler.old.rule) (terms S.private S.room S.share) scheduler.old.refusal (ledger_of scheduler.old.tables) (S.committed scheduler.old.store) (S.pending scheduler.old.store) (Abort self.number) (abort_answer self.number result) }
+        ensures step { Stepped (asked (ledger_of scheduler.old.tables) (Abort self.number)) (abort_answer self.number result) (situation scheduler.old.tables (S.committed scheduler.old.store) (S.pending scheduler.old.store)) (situation scheduler.new.tables (S.committed scheduler.new.store) (S.pending scheduler.new.store)) }
+        ensures same { (scheduler.new.rule ≡ scheduler.old.rule) × (scheduler.new.refusal ≡ scheduler.old.refusal) × (S.place scheduler.new.store ≡ S.place scheduler.old.store) }
     {
         let Active { number } = self;
         scheduler.call(Request::Abort { t: number })?;

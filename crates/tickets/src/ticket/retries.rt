@@ -19,9 +19,9 @@ use store::store::Store;
 impl Waiting {
     /// Tries the request that the transaction waits with once more.
     pub fn retry<S: Store, R: LockRule>(self, scheduler: &mut Scheduler<S, R>) -> Retrying
-        ensures answer { Answers (allows scheduler.old.rule) (terms private room share) scheduler.old.refusal (ledger_of scheduler.old.tables) (committed scheduler.old.store) (pending scheduler.old.store) (Retry self.number) (retry_answer self.number result) }
-        ensures step { Stepped (asked (ledger_of scheduler.old.tables) (Retry self.number)) (retry_answer self.number result) (situation scheduler.old.tables (committed scheduler.old.store) (pending scheduler.old.store)) (situation scheduler.new.tables (committed scheduler.new.store) (pending scheduler.new.store)) }
-        ensures same { (scheduler.new.rule ≡ scheduler.old.rule) × (scheduler.new.refusal ≡ scheduler.old.refusal) × (place scheduler.new.store ≡ place scheduler.old.store) }
+        ensures answer { Answers (R.allows scheduler.old.rule) (terms S.private S.room S.share) scheduler.old.refusal (ledger_of scheduler.old.tables) (S.committed scheduler.old.store) (S.pending scheduler.old.store) (Retry self.number) (retry_answer self.number result) }
+        ensures step { Stepped (asked (ledger_of scheduler.old.tables) (Retry self.number)) (retry_answer self.number result) (situation scheduler.old.tables (S.committed scheduler.old.store) (S.pending scheduler.old.store)) (situation scheduler.new.tables (S.committed scheduler.new.store) (S.pending scheduler.new.store)) }
+        ensures same { (scheduler.new.rule ≡ scheduler.old.rule) × (scheduler.new.refusal ≡ scheduler.old.refusal) × (S.place scheduler.new.store ≡ S.place scheduler.old.store) }
         ensures number { RetryNumber self.number result }
     {
         let Waiting { number } = self;
@@ -34,9 +34,9 @@ impl Waiting {
         self,
         scheduler: &mut Scheduler<S, R>,
     ) -> Result<(), Refusal>
-        ensures answer { Answers (allows scheduler.old.rule) (terms private room share) scheduler.old.refusal (ledger_of scheduler.old.tables) (committed scheduler.old.store) (pending scheduler.old.store) (Abort self.number) (abort_answer self.number result) }
-        ensures step { Stepped (asked (ledger_of scheduler.old.tables) (Abort self.number)) (abort_answer self.number result) (situation scheduler.old.tables (committed scheduler.old.store) (pending scheduler.old.store)) (situation scheduler.new.tables (committed scheduler.new.store) (pending scheduler.new.store)) }
-        ensures same { (scheduler.new.rule ≡ scheduler.old.rule) × (scheduler.new.refusal ≡ scheduler.old.refusal) × (place scheduler.new.store ≡ place scheduler.old.store) }
+        ensures answer { Answers (R.allows scheduler.old.rule) (terms S.private S.room S.share) scheduler.old.refusal (ledger_of scheduler.old.tables) (S.committed scheduler.old.store) (S.pending scheduler.old.store) (Abort self.number) (abort_answer self.number result) }
+        ensures step { Stepped (asked (ledger_of scheduler.old.tables) (Abort self.number)) (abort_answer self.number result) (situation scheduler.old.tables (S.committed scheduler.old.store) (S.pending scheduler.old.store)) (situation scheduler.new.tables (S.committed scheduler.new.store) (S.pending scheduler.new.store)) }
+        ensures same { (scheduler.new.rule ≡ scheduler.old.rule) × (scheduler.new.refusal ≡ scheduler.old.refusal) × (S.place scheduler.new.store ≡ S.place scheduler.old.store) }
     {
         let Waiting { number } = self;
         Active { number }.abort(scheduler)

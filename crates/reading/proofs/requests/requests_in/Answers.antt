@@ -10,7 +10,7 @@ loop-rest-preserved c =
     let bs = c.loop-rest.rest.now in
     let p = length xs - length bs in
     let s : length c.in-Ok.behind.now ≤ length bs = search rules in
-    let g = pushed (placed p c.in-Ok.request ∷ []) refl c.in_ok-push.was c.push.ensures.items in
+    let g = pushed (placed p c.in-Ok.request ∷ []) refl c.in_ok-push-in-Ok.was c.push.ensures.items in
     (omega arith, one_more _ _ p _ bs _ c.in-Ok.request _ g c.in-Ok.ensures.reads c.in-Ok.ensures.writes_back (omega arith) c.loop-rest.invariant.1)
 
 pub returns : goal.returns

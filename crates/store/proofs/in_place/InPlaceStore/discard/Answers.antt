@@ -23,7 +23,11 @@ invariant_of-self c =
     let kept = c.forget.ensures.entries in
     let slice : c.land.new.values ≡ landed t es vs = c.land.ensures ∙ ap (λ (l : List Entry). landed t l vs) c.list.ensures.value in
     let size : size_of c.land.new.values ≡ size_of vs = ap size_of slice ∙ omega (arith, length-landed t es vs) in
-    (omega (arith, c.forget.ensures.len, s.fits), (ap (apart same_item) kept ∙ apart_kept same_item (others t) es s.apart, (ap (bounded (size_of c.land.new.values)) kept ∙ ap (λ (n : ℕ). bounded n (filter (others t) es)) size ∙ bounded_kept (size_of vs) (others t) es s.bounded, tt)))
+    record {
+      fits = omega (arith, c.forget.ensures.len, s.fits);
+      apart = ap (apart same_item) kept ∙ apart_kept same_item (others t) es s.apart;
+      bounded = ap (bounded (size_of c.land.new.values)) kept ∙ ap (λ (n : ℕ). bounded n (filter (others t) es)) size ∙ bounded_kept (size_of vs) (others t) es s.bounded;
+    }
 
 pub returns : goal.returns
 returns c =

@@ -12,7 +12,11 @@ invariant_of-self c =
     let es = entries s.images in
     let n = size_of s.values.now in
     let kept = c.forget.ensures.entries in
-    (omega (arith, c.forget.ensures.len, s.fits), (ap (apart same_item) kept ∙ apart_kept same_item (others c.args.t) es s.apart, (ap (bounded n) kept ∙ bounded_kept n (others c.args.t) es s.bounded, tt)))
+    record {
+      fits = omega (arith, c.forget.ensures.len, s.fits);
+      apart = ap (apart same_item) kept ∙ apart_kept same_item (others c.args.t) es s.apart;
+      bounded = ap (bounded n) kept ∙ bounded_kept n (others c.args.t) es s.bounded;
+    }
 
 pub returns : goal.returns
 returns c =

@@ -58,13 +58,17 @@ invariant_of-self c =
     let none : first (is_on i) es ≡ None = sym (ap (first (is_on i)) c.list.ensures.value) ∙ c.in-None.ensures in
     let more = c.push.ensures.entries in
     let small : t < 65536 = omega arith in
-    (omega (arith, c.push.ensures.len, s.fits), (ap (apart same_item) more ∙ apart-push same_item es _ (λ f. nat_eq_flip i f.item) s.apart none, (ap (bounded n) more ∙ bounded-push n es _ s.bounded small in', tt)))
+    record {
+      fits = omega (arith, c.push.ensures.len, s.fits);
+      apart = ap (apart same_item) more ∙ apart-push same_item es _ (λ f. nat_eq_flip i f.item) s.apart none;
+      bounded = ap (bounded n) more ∙ bounded-push n es _ s.bounded small in';
+    }
 
 pub bounds-self-i-2 : goal.bounds-self-i-2
 bounds-self-i-2 c =
     let s = c.args.self.now in
     let same : c.match-on.self.values ≡ s.values = elim c.match-on.branch [ in-Some+else-self-k w ↦ ap (λ (m : InPlace). m.values) w.self-is | in-None+else-self-eq-ROOM w ↦ ap (λ (m : InPlace). m.values) w.self-is ] in
-    omega (arith, length_behind (entries s.images) s.values.now, ap (λ (r : Bor (List ℤ)). length r.now) same)
+    omega (arith, length_behind (entries s.images) s.values.now, ap (λ (r : MutBor (List ℤ)). length r.now) same)
 
 pub returns : goal.returns
 returns c =

@@ -11,7 +11,12 @@ invariant_of-self c =
     let n = size_of s.values.now in
     let q = others c.args.t in
     let kept = c.forget.ensures.entries in
-    (omega (arith, c.forget.ensures.len, s.fits), (ap (apart same_pair) kept ∙ apart_kept same_pair q es s.apart, (ap (bounded n) kept ∙ bounded_kept n q es s.bounded, ((λ u. omega (arith, ap (count_of u) kept, count_kept u q es, s.shares u)), tt))))
+    record {
+      fits = omega (arith, c.forget.ensures.len, s.fits);
+      apart = ap (apart same_pair) kept ∙ apart_kept same_pair q es s.apart;
+      bounded = ap (bounded n) kept ∙ bounded_kept n q es s.bounded;
+      shares = (λ u. omega (arith, ap (count_of u) kept, count_kept u q es, s.shares u));
+    }
 
 pub returns : goal.returns
 returns c = record { committed = refl; pending = ap found c.forget.ensures.entries ∙ found_kept (entries c.args.self.now.writes) c.args.t; place = refl }

@@ -24,7 +24,12 @@ invariant_of-self c =
     let kept = c.forget.ensures.entries in
     let slice : c.land.new.values ≡ landed t es vs = c.land.ensures ∙ ap (λ (l : List Entry). landed t l vs) c.list.ensures.value in
     let size : size_of c.land.new.values ≡ size_of vs = ap size_of slice ∙ omega (arith, length-landed t es vs) in
-    (omega (arith, c.forget.ensures.len, s.fits), (ap (apart same_pair) kept ∙ apart_kept same_pair q es s.apart, (ap (bounded (size_of c.land.new.values)) kept ∙ ap (λ (n : ℕ). bounded n (filter q es)) size ∙ bounded_kept (size_of vs) q es s.bounded, ((λ u. omega (arith, ap (count_of u) kept, count_kept u q es, s.shares u)), tt))))
+    record {
+      fits = omega (arith, c.forget.ensures.len, s.fits);
+      apart = ap (apart same_pair) kept ∙ apart_kept same_pair q es s.apart;
+      bounded = ap (bounded (size_of c.land.new.values)) kept ∙ ap (λ (n : ℕ). bounded n (filter q es)) size ∙ bounded_kept (size_of vs) q es s.bounded;
+      shares = (λ u. omega (arith, ap (count_of u) kept, count_kept u q es, s.shares u));
+    }
 
 pub returns : goal.returns
 returns c =

@@ -19,7 +19,12 @@ invariant_of-self c =
     let es = entries s.writes in
     let n = size_of s.values.now in
     let new = c.replace.ensures.entries in
-    (omega (arith, c.replace.ensures.len, s.fits), (ap (apart same_pair) new ∙ apart-revalued es c.in-Some.k _ ∙ s.apart, (ap (bounded n) new ∙ bounded-revalued n es c.in-Some.k _ ∙ s.bounded, ((λ u. omega (arith, ap (count_of u) new ∙ count-revalued u es c.in-Some.k _, s.shares u)), tt))))
+    record {
+      fits = omega (arith, c.replace.ensures.len, s.fits);
+      apart = ap (apart same_pair) new ∙ apart-revalued es c.in-Some.k _ ∙ s.apart;
+      bounded = ap (bounded n) new ∙ bounded-revalued n es c.in-Some.k _ ∙ s.bounded;
+      shares = (λ u. omega (arith, ap (count_of u) new ∙ count-revalued u es c.in-Some.k _, s.shares u));
+    }
 
 pub returns-in-Some : goal.returns-in-Some
 returns-in-Some c =
@@ -67,7 +72,12 @@ invariant_of-self-2 c =
     let more = c.push.ensures.entries in
     let small : t < 65536 = omega arith in
     let count : count_of t es < 64 = omega (arith, c.if-count-ge-SHARE.false, c.count.ensures ∙ ap (count_of t) c.list-else-self-eq-ROOM.ensures.value) in
-    (omega (arith, c.push.ensures.len, s.fits), (ap (apart same_pair) more ∙ apart-push same_pair es _ (λ f. pair_flip t i f.owner f.item) s.apart none, (ap (bounded n) more ∙ bounded-push n es _ s.bounded small in', ((λ u. shares-push es t i _ count s.shares u (ap (count_of u) more)), tt))))
+    record {
+      fits = omega (arith, c.push.ensures.len, s.fits);
+      apart = ap (apart same_pair) more ∙ apart-push same_pair es _ (λ f. pair_flip t i f.owner f.item) s.apart none;
+      bounded = ap (bounded n) more ∙ bounded-push n es _ s.bounded small in';
+      shares = (λ u. shares-push es t i _ count s.shares u (ap (count_of u) more));
+    }
 
 pub returns : goal.returns
 returns c =
