@@ -30,7 +30,7 @@ passed (Some d) h = cc
 
 pub returns-in_err-put : goal.returns-in_err-put
 returns-in_err-put g c =
-    let p = err_from_is_err_and c.from-residual.result c.from-residual.ensures.1 in
+    let p = err_from_is_err_and c.from_residual.result c.from_residual.ensures.1 in
     let ls = lock_list c.args.self.now.tables.locks.inner in
     let t = c.args.t in
     let i = c.args.item in

@@ -9,16 +9,10 @@ use Rattle.scheduler.proofs.tables.Tables.begin.Goals as goal
 pub invariant_of-self : goal.invariant_of-self
 invariant_of-self c =
     let os = open_list c.args.self.now.open in
-    let p = c.push.ensures in (
-      omega arith,
-      (
-        omega (arith, p.len),
-        (
-          ap length p.list ∙ omega (arith, length_push os (transaction (c.args.self.now.begins + 1) Active), p.len, c.args.self.now.whole),
-          (
-            rw p.list (rising-push 0 c.args.self.now.begins (c.args.self.now.begins + 1) os Active c.args.self.now.rising (omega arith) (omega arith)),
-            tt,
-          ),
-        ),
-      ),
-    )
+    let p = c.push.ensures in
+    record {
+      counted = omega arith;
+      few = omega (arith, p.len);
+      whole = ap length p.list ∙ omega (arith, length_push os (transaction (c.args.self.now.begins + 1) Active), p.len, c.args.self.now.whole);
+      rising = rw p.list (rising-push 0 c.args.self.now.begins (c.args.self.now.begins + 1) os Active c.args.self.now.rising (omega arith) (omega arith));
+    }

@@ -6,16 +6,10 @@ use Rattle.scheduler.proofs.tables.Tables.close.Goals as goal
 
 pub invariant_of-self : goal.invariant_of-self
 invariant_of-self c =
-    let p = c.remove.ensures in (
-      c.args.self.now.counted,
-      (
-        omega (arith, p.len, c.args.self.now.few),
-        (
-          p.whole,
-          (
-            rw p.list (rising_kept (λ (o : Transaction). not (eqb o.number c.args.t)) 0 c.args.self.now.begins (open_list c.args.self.now.open) c.args.self.now.rising),
-            tt,
-          ),
-        ),
-      ),
-    )
+    let p = c.remove.ensures in
+    record {
+      counted = c.args.self.now.counted;
+      few = omega (arith, p.len, c.args.self.now.few);
+      whole = p.whole;
+      rising = rw p.list (rising_kept (λ (o : Transaction). not (eqb o.number c.args.t)) 0 c.args.self.now.begins (open_list c.args.self.now.open) c.args.self.now.rising);
+    }
