@@ -137,7 +137,7 @@ module _ (vs : List ℤ) (long : length vs ≡ 1024) (zeros : (i : ℕ) → get_
   -- ---- private
   put_beside : (t i : ℕ) (v : ℤ) (u : ℕ) → leb 1024 i ≡ false → eqb u t ≡ false → refused true 512 64 vs (written nothing t i v) u i ≡ None
   put_beside t i v u there ne =
-      accepted private-server.terms vs (written nothing t i v) u i 1 (few_written t i v (few_nothing 0)) (lit< tt) (lit< tt) (leb-false (length vs) i (item i there)) refl
+      accepted private_server.terms vs (written nothing t i v) u i 1 (few_written t i v (few_nothing 0)) (lit< tt) (lit< tt) (leb-false (length vs) i (item i there)) refl
       (ap is_some (written_elsewhere nothing t i v u i (inl (eqb-false u t ne))))
 
   write_granted : (v w : ℤ) → Plays private_server vs (reader_writes_too v w)
