@@ -1,4 +1,4 @@
-use Rattle.std.proofs.Common.{◌≡◌, ◌<◌, false, List, [], ◌∷◌, ◌++◌, length, get_or, set, ℤ, pos, Some, None, Err, sym, refl, ap, ◌∙◌, arith, w32, SFits, to_z, of_z, Bor, MutBor, rules}
+use Rattle.std.proofs.Common.{◌≡◌, ◌<◌, false, List, [], ◌∷◌, ◌++◌, length, get_or, set, ℤ, pos, Some, None, Err, sym, refl, ap, ◌∙◌, arith, w32, SFits, to_z, of_z, MutBor, rules}
 use Rattle.std.proofs.lemmas.List.{drop-set-lt}
 use Rattle.std.proofs.lemmas.Int.{to_z-of_z}
 use Rattle.std.proofs.lemmas.Bool.{eq-eqb}
