@@ -66,8 +66,6 @@ impl Store for InPlace<'_> {
 
     ghost private = { false };
 
-    ghost sound = { λ s. in_place_sound (entries s.images) s.values.now (few_entries s.images s.fits) s.bounded s.apart };
-
     ghost place = { λ s. record { home = s.values.ghost_name ∷ []; outside = rest s.values.now } };
 
     fn capacity() -> usize
@@ -143,4 +141,6 @@ impl Store for InPlace<'_> {
         land(images.list(), t, values);
         images.forget(t);
     }
+
+    ghost sound = { λ s. in_place_sound (entries s.images) s.values.now (few_entries s.images s.fits) s.bounded s.apart };
 }

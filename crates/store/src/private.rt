@@ -66,8 +66,6 @@ impl Store for Private<'_> {
 
     ghost private = { true };
 
-    ghost sound = { λ s. private_sound (entries s.writes) s.values.now (few_entries s.writes s.fits) s.bounded s.apart s.shares };
-
     ghost place = { λ s. record { home = s.values.ghost_name ∷ []; outside = rest s.values.now } };
 
     fn capacity() -> usize
@@ -131,4 +129,6 @@ impl Store for Private<'_> {
     fn discard(&mut self, t: u16) {
         self.writes.forget(t);
     }
+
+    ghost sound = { λ s. private_sound (entries s.writes) s.values.now (few_entries s.writes s.fits) s.bounded s.apart s.shares };
 }

@@ -24,9 +24,6 @@ pub trait Store {
 
     ghost private: { Bool };
 
-    // What the meaning of a store keeps at all times.
-    ghost sound: { (s : Self) → Sound private room share (committed s) (pending s) };
-
     // Where the memory of a store lies; no call changes it.
     ghost place: { Self → Place };
 
@@ -72,6 +69,9 @@ pub trait Store {
         ensures committed { committed self.new ≡ committed self.old }
         ensures pending { pending self.new ≡ without (pending self.old) t }
         ensures place { place self.new ≡ place self.old };
+
+    // What the meaning of a store keeps at all times.
+    ghost sound: { (s : Self) → Sound private room share (committed s) (pending s) };
 }
 
 pub(crate) fn refusal(reason: Reason) -> Refusal

@@ -30,7 +30,7 @@ loop-call-init g c =
       (
         ap length made.items,
         subst (λ (L : Ledger). Going ok k O.refusal (S.committed O.store) (S.pending O.store) [] L (S.committed O.store) (S.pending O.store)) (sym e.tables)
-            (going-none ok k (S.committed O.store) (S.pending O.store) (S.sound O.store) O.refusal pair),
+            (going-none ok k (S.committed O.store) (S.pending O.store) (g.met.S.Store.sound O.store) O.refusal pair),
       ),
     )
 
