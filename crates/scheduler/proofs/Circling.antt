@@ -8,7 +8,7 @@ use Rattle.scheduler.specs.declared.transaction.Ask.{Ask}
 use Rattle.scheduler.specs.declared.transaction.State.{State}
 use Rattle.scheduler.specs.declared.transaction.State.TheVariants.{Waiting}
 use Rattle.scheduler.specs.declared.transaction.Transaction.{Transaction}
-use Rattle.scheduler.specs.Arrays.{no_transaction}
+use Rattle.scheduler.specs.Orders.{no_transaction}
 use Rattle.scheduler.specs.Blockers.{Chain, In, Rule, Waits, blockers, here, on}
 use Rattle.scheduler.specs.Circles.{Circle}
 use Rattle.scheduler.specs.Found.{At}

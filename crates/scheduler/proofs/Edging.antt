@@ -8,7 +8,7 @@ use Rattle.scheduler.specs.declared.transaction.Ask.{Ask}
 use Rattle.scheduler.specs.declared.transaction.Ask.TheVariants.{Read as ask_read, Write as ask_write, Commit as ask_commit}
 use Rattle.scheduler.specs.declared.transaction.State.{State}
 use Rattle.scheduler.specs.declared.transaction.Transaction.{Transaction}
-use Rattle.scheduler.specs.Arrays.{clashes, clear_of, orderly, rising}
+use Rattle.scheduler.specs.Orders.{clashes, clear_of, orderly, rising}
 use Rattle.scheduler.specs.Blockers.{In, Rule, ahead, barring, blockers, first, later, reads_beside}
 use Rattle.scheduler.specs.Edges.{bars_with, blocks, number_at, reads_written, state_at}
 use Rattle.scheduler.specs.Ledger.{holds, is_lock, lock, same_kind, state_of}

@@ -5,7 +5,7 @@ use Rattle.scheduler.specs.declared.lock.Kind.{Kind}
 use Rattle.scheduler.specs.declared.lock.Kind.TheVariants.{Read, Write}
 use Rattle.scheduler.specs.declared.lock.Lock.{Lock}
 use Rattle.scheduler.specs.declared.transaction.Ask.TheVariants.{Read as ask_read}
-use Rattle.scheduler.specs.Arrays.{clashes}
+use Rattle.scheduler.specs.Orders.{clashes}
 use Rattle.scheduler.specs.Blockers.{In, Rule, blockers}
 use Rattle.scheduler.specs.Fresh.{Fresh}
 use Rattle.scheduler.specs.Ledger.{holds, lock, same_kind}

@@ -10,7 +10,7 @@ use Rattle.scheduler.specs.declared.transaction.Ask.TheVariants.{Read as ask_rea
 use Rattle.scheduler.specs.declared.transaction.State.{State}
 use Rattle.scheduler.specs.declared.transaction.State.TheVariants.{Active, Waiting}
 use Rattle.scheduler.specs.declared.transaction.Transaction.{Transaction}
-use Rattle.scheduler.specs.Arrays.{no_lock, rising}
+use Rattle.scheduler.specs.Orders.{no_lock, rising}
 use Rattle.scheduler.specs.Bits.{has}
 use Rattle.scheduler.specs.Blockers.{Rule}
 use Rattle.scheduler.specs.Edges.{Held, More, asks, bars_with, between, commits, committing, in_block, number_at, state_at, written_in}

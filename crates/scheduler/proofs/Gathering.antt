@@ -7,7 +7,7 @@ use Rattle.scheduler.specs.declared.lock.Lock.{Lock}
 use Rattle.scheduler.specs.declared.places.Places.{Places}
 use Rattle.scheduler.specs.declared.transaction.State.{State}
 use Rattle.scheduler.specs.declared.transaction.Transaction.{Transaction}
-use Rattle.scheduler.specs.Arrays.{no_lock, rising}
+use Rattle.scheduler.specs.Orders.{no_lock, rising}
 use Rattle.scheduler.specs.Bits.{has}
 use Rattle.scheduler.specs.Blockers.{In}
 use Rattle.scheduler.specs.Edges.{Covers, Held, in_block, number_at}

@@ -2,7 +2,7 @@
 use Rattle.std.proofs.Common.{◌≡◌, Bool, true, false, cond, not, List, [], ◌∷◌, ◌++◌, filter, refl}
 use Rattle.std.proofs.lemmas.Bool.{and_parts, and_from, not_from_false}
 use Rattle.scheduler.specs.declared.lock.Lock.{Lock}
-use Rattle.scheduler.specs.Arrays.{clashes, clear_of, orderly}
+use Rattle.scheduler.specs.Orders.{clashes, clear_of, orderly}
 use Rattle.scheduler.specs.Blockers.{first, later}
 use Rattle.scheduler.specs.Fresh.{Fresh}
 

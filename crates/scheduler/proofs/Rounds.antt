@@ -4,7 +4,7 @@ use Rattle.std.proofs.lemmas.Bool.{and_from, and_parts, both_ways, lt-ltb, ltb-t
 use Rattle.scheduler.specs.declared.places.Places.{Places}
 use Rattle.scheduler.specs.declared.transaction.State.{State}
 use Rattle.scheduler.specs.declared.transaction.State.TheVariants.{Active, Waiting}
-use Rattle.scheduler.specs.Arrays.{orderly, rising}
+use Rattle.scheduler.specs.Orders.{orderly, rising}
 use Rattle.scheduler.specs.Bits.{has}
 use Rattle.scheduler.specs.Blockers.{Chain, Rule, Waits, here, on}
 use Rattle.scheduler.specs.Circles.{Circle}

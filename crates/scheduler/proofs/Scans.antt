@@ -5,7 +5,7 @@ use Rattle.std.proofs.lemmas.Bool.{and_left, and_right, both_ways, cases_Bool, c
 use Rattle.scheduler.specs.declared.lock.Kind.{Kind}
 use Rattle.scheduler.specs.declared.lock.Kind.TheVariants.{Write}
 use Rattle.scheduler.specs.declared.lock.Lock.{Lock}
-use Rattle.scheduler.specs.Arrays.{no_lock}
+use Rattle.scheduler.specs.Orders.{no_lock}
 use Rattle.scheduler.specs.Blockers.{Rule, In, ahead, barring, bars, first, later, reads_beside}
 use Rattle.scheduler.specs.Ledger.{holds, is_lock, same_kind}
 use Rattle.scheduler.proofs.Locks.{is_lock_eq}

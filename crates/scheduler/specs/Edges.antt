@@ -9,7 +9,7 @@ use Rattle.scheduler.specs.declared.transaction.Ask.TheVariants.{Read as ask_rea
 use Rattle.scheduler.specs.declared.transaction.State.{State}
 use Rattle.scheduler.specs.declared.transaction.State.TheVariants.{Active, Waiting}
 use Rattle.scheduler.specs.declared.transaction.Transaction.{Transaction}
-use Rattle.scheduler.specs.Arrays.{no_transaction}
+use Rattle.scheduler.specs.Orders.{no_transaction}
 use Rattle.scheduler.specs.Bits.{has}
 use Rattle.scheduler.specs.Blockers.{In, Rule}
 use Rattle.scheduler.specs.ItemSets.{no_places}

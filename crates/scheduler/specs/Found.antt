@@ -2,7 +2,7 @@
 use Rattle.std.specs.Prelude.{◌≡◌, ℕ, ◌<◌, List, length, Some, None, Option, slice_index_or, slice_set}
 use Rattle.scheduler.specs.declared.transaction.State.{State}
 use Rattle.scheduler.specs.declared.transaction.Transaction.{Transaction}
-use Rattle.scheduler.specs.Arrays.{no_transaction}
+use Rattle.scheduler.specs.Orders.{no_transaction}
 use Rattle.scheduler.specs.Ledger.{restated, state_of, transaction}
 
 -- t stands at the place i

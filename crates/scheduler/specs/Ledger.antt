@@ -20,8 +20,11 @@ pub record Ledger : Type 0 where
   pub opens : List Transaction
   pub locks : List Lock
 
+abbrev pub ledger : ℕ → List Transaction → List Lock → Ledger
+ledger n os ls = record { begins = n; opens = os; locks = ls }
+
 abbrev pub empty : Ledger
-empty = record { begins = 0; opens = []; locks = [] }
+empty = ledger 0 [] []
 
 -- what a call is answered: a reply, or a refusal
 abbrev pub Answer : Type 0
@@ -95,16 +98,16 @@ waiting (Some a) t os = restated t (Waiting a) os
 
 -- t is struck out, with its locks
 abbrev pub struck : ℕ → Ledger → Ledger
-struck t L = record { begins = L.begins; opens = closed t L.opens; locks = unlocked t L.locks }
+struck t L = ledger L.begins (closed t L.opens) (unlocked t L.locks)
 
 -- the ledger after a reply to a call that asked for a
 abbrev pub noted : Ledger → Option Ask → Reply → Ledger
-noted L a (Opened t) = record { begins = L.begins + 1; opens = L.opens ++ transaction t Active ∷ []; locks = L.locks }
-noted L a (Value t i v) = record { begins = L.begins; opens = restated t Active L.opens; locks = with_read t i L.locks }
-noted L a (Written t i) = record { begins = L.begins; opens = restated t Active L.opens; locks = with_write t i L.locks }
+noted L a (Opened t) = ledger (L.begins + 1) (L.opens ++ transaction t Active ∷ []) L.locks
+noted L a (Value t i v) = ledger L.begins (restated t Active L.opens) (with_read t i L.locks)
+noted L a (Written t i) = ledger L.begins (restated t Active L.opens) (with_write t i L.locks)
 noted L a (Committed t) = struck t L
 noted L a (Aborted t) = struck t L
-noted L a (Wait t b) = record { begins = L.begins; opens = waiting a t L.opens; locks = L.locks }
+noted L a (Wait t b) = ledger L.begins (waiting a t L.opens) L.locks
 noted L a (Deadlock t) = struck t L
 
 -- the ledger after an answer; a refusal changes nothing

@@ -3,7 +3,7 @@ pub mod Blockers
 pub mod Rules
 pub mod Effects
 pub mod Steps
-pub mod Arrays
+pub mod Orders
 pub mod Fresh
 pub mod Found
 pub mod Tables

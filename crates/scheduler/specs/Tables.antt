@@ -1,7 +1,6 @@
 -- The tables as a ledger.
 use Rattle.scheduler.specs.declared.tables.Tables.{Tables}
-use Rattle.scheduler.specs.Arrays.{lock_list, open_list}
-use Rattle.scheduler.specs.Ledger.{Ledger}
+use Rattle.scheduler.specs.Ledger.{Ledger, ledger}
 
 abbrev pub ledger_of : Tables → Ledger
-ledger_of T = record { begins = T.begins; opens = open_list T.open; locks = lock_list T.locks.inner }
+ledger_of T = ledger T.begins T.open.items T.locks.inner.items

@@ -4,7 +4,6 @@
 mod call;
 pub mod items;
 pub mod lock;
-pub mod lock_array;
 pub mod lock_list;
 mod opening;
 pub mod places;
@@ -16,5 +15,4 @@ mod search;
 mod steps;
 pub mod tables;
 pub mod transaction;
-pub mod transaction_array;
 mod waits;

@@ -1,13 +1,14 @@
 // A lock, and the two kinds of it.
 
-#[derive(Clone, Copy, PartialEq, Eq, Debug)]
+#[derive(Clone, Copy, PartialEq, Eq, Debug, Default)]
 pub enum Kind {
+    #[default]
     Read,
     Write,
 }
 
 /// A transaction's lock on an item.
-#[derive(Clone, Copy, PartialEq, Eq, Debug)]
+#[derive(Clone, Copy, PartialEq, Eq, Debug, Default)]
 pub struct Lock {
     pub owner: u16,
     pub item: u16,

@@ -1,54 +1,56 @@
 // The lock list, with what always holds of it.
-ghost use Rattle.std.specs.Prelude.{◌≡◌, ◌<◌, ◌≤◌, true, false, [], ◌∷◌, ◌++◌, length, nat_le};
-ghost use Rattle.scheduler.specs.Arrays.{lock_list, orderly};
+ghost use Rattle.std.specs.Prelude.{◌≡◌, ◌<◌, true, false, not, [], ◌∷◌, ◌++◌, length, filter, nat_le};
 ghost use Rattle.scheduler.specs.Fresh.{Fresh};
 ghost use Rattle.scheduler.specs.Ledger.{unlocked};
+ghost use Rattle.scheduler.specs.Orders.{orderly};
 
 use crate::lock::Lock;
-use crate::lock_array::{LOCKS, LockArray};
+use arrayvec::ArrayVec;
+
+/// How many locks there may be.
+pub const LOCKS: usize = 2048;
 
 /// The locks in the order of granting. A transaction has at most one lock of a kind on an item, and no read lock
 /// stands behind another transaction's write lock on one item.
 #[derive(Drop)]
 pub struct LockList {
-    pub(crate) inner: LockArray,
-    ghost fits: { inner.len ≤ 2048 },
-    ghost orderly: { orderly (lock_list inner) ≡ true },
+    pub(crate) inner: ArrayVec<Lock, LOCKS>,
+    ghost orderly: { orderly inner.items ≡ true },
 }
 
 impl LockList {
     pub(crate) fn new() -> LockList
-        ensures { lock_list result.inner ≡ [] }
+        ensures { result.inner.items ≡ [] }
     {
         LockList {
-            inner: LockArray::new(),
+            inner: ArrayVec::new(),
         }
     }
 
     pub(crate) fn list(&self) -> &[Lock]
-        ensures { result.now ≡ lock_list self.now.inner }
+        ensures { result.now ≡ self.now.inner.items }
     {
-        self.inner.list()
+        self.inner.as_slice()
     }
 
     pub(crate) fn is_full(&self) -> bool
-        ensures value { result ≡ nat_le 2048 (length (lock_list self.now.inner)) }
-        ensures room { result ≡ false → self.now.inner.len < 2048 }
+        ensures value { result ≡ nat_le 2048 (length self.now.inner.items) }
+        ensures room { result ≡ false → length self.now.inner.items < 2048 }
     {
-        self.inner.list().len() >= LOCKS
+        self.inner.is_full()
     }
 
     pub(crate) fn push(&mut self, lock: Lock)
-        requires room { self.old.inner.len < 2048 }
-        requires fresh { Fresh (lock_list self.old.inner) lock }
-        ensures { lock_list self.new.inner ≡ lock_list self.old.inner ++ lock ∷ [] }
+        requires room { length self.old.inner.items < 2048 }
+        requires fresh { Fresh self.old.inner.items lock }
+        ensures { self.new.inner.items ≡ self.old.inner.items ++ lock ∷ [] }
     {
         self.inner.push(lock);
     }
 
     pub(crate) fn remove_owner(&mut self, t: u16)
-        ensures { lock_list self.new.inner ≡ unlocked t (lock_list self.old.inner) }
+        ensures { self.new.inner.items ≡ unlocked t self.old.inner.items }
     {
-        self.inner.remove_owner(t);
+        self.inner.retain(|lock| lock.owner != t);
     }
 }

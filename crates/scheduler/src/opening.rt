@@ -1,6 +1,6 @@
 // Finding, opening, restating and closing transactions in the tables.
-ghost use Rattle.std.specs.Prelude.{◌≡◌, ◌+◌, ◌<◌, false, not, ◌&&◌, slice_index_or};
-ghost use Rattle.scheduler.specs.Arrays.{lock_list, no_transaction, open_list};
+ghost use Rattle.std.specs.Prelude.{◌≡◌, ◌+◌, ◌<◌, false, not, ◌&&◌, length, slice_index_or};
+ghost use Rattle.scheduler.specs.Orders.{no_transaction};
 ghost use Rattle.scheduler.specs.Blockers.{blockers};
 ghost use Rattle.scheduler.specs.Found.{At, Found};
 ghost use Rattle.scheduler.specs.Fresh.{Fresh};
@@ -16,7 +16,7 @@ use crate::rule::LockRule;
 use crate::search;
 use crate::tables::Tables;
 use crate::transaction::{Ask, State, Transaction};
-use crate::transaction_array::TransactionArray;
+use arrayvec::ArrayVec;
 
 impl Tables {
     pub(crate) fn new() -> Tables
@@ -24,50 +24,35 @@ impl Tables {
     {
         Tables {
             begins: 0,
-            open: TransactionArray::new(),
+            open: ArrayVec::new(),
             locks: LockList::new(),
         }
     }
 
     /// Where the transaction stands among the open ones, whose numbers rise.
     pub(crate) fn find(&self, t: u16) -> Option<usize>
-        ensures { Found (open_list self.now.«open») t result }
+        ensures { Found self.now.«open».items t result }
     {
-        let list = self.open.list();
-        let mut low = 0;
-        let mut high = list.len();
-        while low < high {
-            let mid = (low + high) / 2;
-            let number = list[mid].number;
-            if number == t {
-                return Some(mid);
-            }
-            if number < t {
-                low = mid + 1;
-            } else {
-                high = mid;
-            }
-        }
-        None
+        self.open.binary_search_by_key(&t, |one| one.number).ok()
     }
 
     pub(crate) fn state(&self, i: usize) -> State
-        requires { i < self.now.«open».len }
-        ensures { result ≡ (slice_index_or (open_list self.now.«open») i no_transaction).state }
+        requires { i < length self.now.«open».items }
+        ensures { result ≡ (slice_index_or self.now.«open».items i no_transaction).state }
     {
-        self.open.list()[i].state
+        self.open[i].state
     }
 
     /// One of those that block what the transaction asks for.
     pub(crate) fn blocker<R: LockRule>(&self, rule: &R, t: u16, ask: Ask) -> Option<u16>
-        ensures { Picked result (blockers (R.allows rule.now) (lock_list self.now.locks.inner) t ask) }
+        ensures { Picked result (blockers (R.allows rule.now) self.now.locks.inner.items t ask) }
     {
         search::blocker(self.locks.list(), rule, t, ask)
     }
 
     /// Opens the next transaction.
     pub(crate) fn begin(&mut self) -> u16
-        requires room { self.old.«open».len < 64 }
+        requires room { length self.old.«open».items < 64 }
         requires left { self.old.begins < 60000 }
         ensures number { result ≡ self.old.begins + 1 }
         ensures ledger { ledger_of self.new ≡ begun result (ledger_of self.old) }
@@ -83,33 +68,33 @@ impl Tables {
 
     /// Puts the transaction at the place `i` into the state.
     pub(crate) fn restate(&mut self, i: usize, state: State)
-        requires { i < self.old.«open».len }
+        requires { i < length self.old.«open».items }
         ensures { ledger_of self.new ≡ moved i state (ledger_of self.old) }
     {
-        self.open.restate(i, state);
+        self.open[i].state = state;
     }
 
     /// Strikes out the transaction and its locks.
     pub(crate) fn close(&mut self, t: u16)
         ensures { ledger_of self.new ≡ struck t (ledger_of self.old) }
     {
-        self.open.remove(t);
+        self.open.retain(|one| one.number != t);
         self.locks.remove_owner(t);
     }
 
     /// Whether a lock that is not there yet finds the list full.
     pub(crate) fn lacks_room(&self, locked: bool) -> bool
         ensures value { result ≡ (not locked && full (ledger_of self.now)) }
-        ensures room { result ≡ false → locked ≡ false → self.now.locks.inner.len < 2048 }
+        ensures room { result ≡ false → locked ≡ false → length self.now.locks.inner.items < 2048 }
     {
         !locked && self.locks.is_full()
     }
 
     /// Gives the transaction at the place `i` the lock, unless it has one that does, and makes it active.
     pub(crate) fn grant(&mut self, i: usize, lock: Lock, locked: bool)
-        requires at { At (open_list self.old.«open») lock.owner i }
-        requires room { locked ≡ false → self.old.locks.inner.len < 2048 }
-        requires fresh { locked ≡ false → Fresh (lock_list self.old.locks.inner) lock }
+        requires at { At self.old.«open».items lock.owner i }
+        requires room { locked ≡ false → length self.old.locks.inner.items < 2048 }
+        requires fresh { locked ≡ false → Fresh self.old.locks.inner.items lock }
         ensures { ledger_of self.new ≡ given lock locked (ledger_of self.old) }
     {
         if !locked {

@@ -3,7 +3,6 @@ ghost use Rattle.std.specs.Prelude.{◌≡◌, ◌<◌, [], length, Some, None, 
 ghost use Rattle.store.specs.Meaning.{held_count};
 ghost use Rattle.scheduler.specs.declared.lock.Kind.TheVariants.{Read, Write};
 ghost use Rattle.scheduler.specs.declared.transaction.Ask.TheVariants.{Read as AskRead, Write as AskWrite};
-ghost use Rattle.scheduler.specs.Arrays.{open_list};
 ghost use Rattle.records.specs.declared.request.Request.TheVariants.{Begin};
 ghost use Rattle.scheduler.specs.Blockers.{In, blockers};
 ghost use Rattle.scheduler.specs.Calls.{called, sought};
@@ -20,9 +19,8 @@ use crate::reply::Reply;
 use crate::rule::LockRule;
 use crate::scheduler::Scheduler;
 use crate::search;
-use crate::tables::{BEGINS, Tables};
+use crate::tables::{BEGINS, OPEN, Tables};
 use crate::transaction::{Ask, State, Transaction};
-use crate::transaction_array::OPEN;
 use records::refusal::{Layer, Reason, Refusal};
 use records::request::Request;
 use store::store::Store;
@@ -85,12 +83,12 @@ impl<S: Store, R: LockRule> Scheduler<S, R> {
     pub fn transactions(&self) -> &[Transaction]
         ensures { result.now ≡ (ledger_of self.now.tables).opens }
     {
-        self.tables.open.list()
+        self.tables.open.as_slice()
     }
 
     /// A read that nobody blocks.
     fn grant_read(&mut self, i: usize, t: u16, item: u16) -> Result<Reply, Refusal>
-        requires at { At (open_list self.old.tables.«open») t i }
+        requires at { At self.old.tables.«open».items t i }
         requires free { blockers (R.allows self.old.rule) (ledger_of self.old.tables).locks t (AskRead item) ≡ [] }
         ensures answer { result ≡ granted (terms S.private S.room S.share) (ledger_of self.old.tables) (S.committed self.old.store) (S.pending self.old.store) t (AskRead item) }
         ensures step { Stepped (Some (AskRead item)) result (situation self.old.tables (S.committed self.old.store) (S.pending self.old.store)) (situation self.new.tables (S.committed self.new.store) (S.pending self.new.store)) }
@@ -115,7 +113,7 @@ impl<S: Store, R: LockRule> Scheduler<S, R> {
 
     /// A write that nobody blocks.
     fn grant_write(&mut self, i: usize, t: u16, item: u16, value: i32) -> Result<Reply, Refusal>
-        requires at { At (open_list self.old.tables.«open») t i }
+        requires at { At self.old.tables.«open».items t i }
         ensures answer { result ≡ granted (terms S.private S.room S.share) (ledger_of self.old.tables) (S.committed self.old.store) (S.pending self.old.store) t (AskWrite item value) }
         ensures step { Stepped (Some (AskWrite item value)) result (situation self.old.tables (S.committed self.old.store) (S.pending self.old.store)) (situation self.new.tables (S.committed self.new.store) (S.pending self.new.store)) }
         ensures same { (self.new.rule ≡ self.old.rule) × (self.new.refusal ≡ self.old.refusal) × (S.place self.new.store ≡ S.place self.old.store) }
@@ -139,7 +137,7 @@ impl<S: Store, R: LockRule> Scheduler<S, R> {
 
     /// What nobody blocks.
     fn grant(&mut self, i: usize, t: u16, ask: Ask) -> Result<Reply, Refusal>
-        requires at { At (open_list self.old.tables.«open») t i }
+        requires at { At self.old.tables.«open».items t i }
         requires free { blockers (R.allows self.old.rule) (ledger_of self.old.tables).locks t ask ≡ [] }
         ensures answer { result ≡ granted (terms S.private S.room S.share) (ledger_of self.old.tables) (S.committed self.old.store) (S.pending self.old.store) t ask }
         ensures step { Stepped (Some ask) result (situation self.old.tables (S.committed self.old.store) (S.pending self.old.store)) (situation self.new.tables (S.committed self.new.store) (S.pending self.new.store)) }
@@ -158,7 +156,7 @@ impl<S: Store, R: LockRule> Scheduler<S, R> {
 
     /// What `blocker` and perhaps others block.
     fn block(&mut self, i: usize, t: u16, ask: Ask, blocker: u16) -> Reply
-        requires at { At (open_list self.old.tables.«open») t i }
+        requires at { At self.old.tables.«open».items t i }
         requires blocker { In blocker (blockers (R.allows self.old.rule) (ledger_of self.old.tables).locks t ask) }
         ensures answer { Blocked (R.allows self.old.rule) (ledger_of self.old.tables) t (blockers (R.allows self.old.rule) (ledger_of self.old.tables).locks t ask) (Ok result) }
         ensures step { Stepped (Some ask) (Ok result) (situation self.old.tables (S.committed self.old.store) (S.pending self.old.store)) (situation self.new.tables (S.committed self.new.store) (S.pending self.new.store)) }
@@ -175,7 +173,7 @@ impl<S: Store, R: LockRule> Scheduler<S, R> {
 
     /// Tries what the transaction asks for.
     fn attempt(&mut self, i: usize, t: u16, ask: Ask) -> Result<Reply, Refusal>
-        requires at { At (open_list self.old.tables.«open») t i }
+        requires at { At self.old.tables.«open».items t i }
         ensures answer { Placed (R.allows self.old.rule) (terms S.private S.room S.share) (ledger_of self.old.tables) (S.committed self.old.store) (S.pending self.old.store) t ask (no_item (length (S.committed self.old.store)) ask) result }
         ensures step { Stepped (Some ask) result (situation self.old.tables (S.committed self.old.store) (S.pending self.old.store)) (situation self.new.tables (S.committed self.new.store) (S.pending self.new.store)) }
         ensures same { (self.new.rule ≡ self.old.rule) × (self.new.refusal ≡ self.old.refusal) × (S.place self.new.store ≡ S.place self.old.store) }

@@ -23,8 +23,9 @@ impl Ask {
     }
 }
 
-#[derive(Clone, Copy, PartialEq, Eq, Debug)]
+#[derive(Clone, Copy, PartialEq, Eq, Debug, Default)]
 pub enum State {
+    #[default]
     Active,
     Waiting(Ask),
 }
@@ -43,7 +44,7 @@ impl State {
     }
 }
 
-#[derive(Clone, Copy, PartialEq, Eq, Debug)]
+#[derive(Clone, Copy, PartialEq, Eq, Debug, Default)]
 pub struct Transaction {
     pub number: u16,
     pub state: State,

@@ -1,8 +1,8 @@
 // The search for a chain of waits. Who waits for whom is gathered in one pass over the locks for each kind of lock and
 // one for the commits, for each block of 1,024 items that has locks, however many transactions wait.
-ghost use Rattle.std.specs.Prelude.{◌≡◌, ℕ, ◌<◌, false, not, ◌&&◌, ◌||◌, Decides, slice_index_or};
+ghost use Rattle.std.specs.Prelude.{◌≡◌, ℕ, ◌<◌, false, length, not, ◌&&◌, ◌||◌, Decides, slice_index_or};
 ghost use Rattle.scheduler.specs.declared.lock.Kind.TheVariants.{Read, Write};
-ghost use Rattle.scheduler.specs.Arrays.{lock_list, no_transaction, open_list};
+ghost use Rattle.scheduler.specs.Orders.{no_transaction};
 ghost use Rattle.scheduler.specs.Bits.{has};
 ghost use Rattle.scheduler.specs.Circles.{Circle};
 ghost use Rattle.scheduler.specs.Edges.{Covers, Drawn, Held, More, asks, between, commits, in_block};
@@ -13,9 +13,8 @@ use crate::lock::{Kind, Lock};
 use crate::places::Places;
 use crate::reach::leading_to;
 use crate::rule::LockRule;
-use crate::tables::Tables;
+use crate::tables::{OPEN, Tables};
 use crate::transaction::{Ask, State};
-use crate::transaction_array::OPEN;
 
 /// How many neighbouring items are looked at together.
 const BLOCK: u16 = 1024;
@@ -47,7 +46,7 @@ fn barring<R: LockRule>(rule: &R, kind: Kind, readers: Places, writers: Places) 
 impl Tables {
     /// The blocks in which there are locks.
     fn blocks(&self) -> Places
-        ensures { Covers (lock_list self.now.locks.inner) result.bits }
+        ensures { Covers self.now.locks.inner.items result.bits }
     {
         let locks = self.locks.list();
         let mut blocks = Places::none();
@@ -59,7 +58,7 @@ impl Tables {
 
     /// For each item of the block, the places of those that hold a lock of the kind on it.
     fn holders(&self, kind: Kind, block: u16) -> [Places; 1024]
-        ensures { Held (open_list self.now.«open») (lock_list self.now.locks.inner) block kind result }
+        ensures { Held self.now.«open».items self.now.locks.inner.items block kind result }
     {
         let locks = self.locks.list();
         let mut holders = [Places { bits: 0 }; 1024];
@@ -83,10 +82,10 @@ impl Tables {
         readers: &[Places; 1024],
         writers: &[Places; 1024],
     ) -> Places
-        requires within { b < self.now.«open».len }
-        requires readers { Held (open_list self.now.«open») (lock_list self.now.locks.inner) block Read readers.now }
-        requires writers { Held (open_list self.now.«open») (lock_list self.now.locks.inner) block Write writers.now }
-        ensures { (a : ℕ) → a < 64 → has result.bits a ≡ between (open_list self.now.«open») (asks (in_block block) (R.allows rule.now) (lock_list self.now.locks.inner)) b a }
+        requires within { b < length self.now.«open».items }
+        requires readers { Held self.now.«open».items self.now.locks.inner.items block Read readers.now }
+        requires writers { Held self.now.«open».items self.now.locks.inner.items block Write writers.now }
+        ensures { (a : ℕ) → a < 64 → has result.bits a ≡ between self.now.«open».items (asks (in_block block) (R.allows rule.now) self.now.locks.inner.items) b a }
     {
         let State::Waiting(ask) = self.state(b) else {
             return Places::none();
@@ -116,11 +115,11 @@ impl Tables {
         writers: &[Places; 1024],
         rows: &mut [Places; OPEN],
     )
-        requires readers { Held (open_list self.now.«open») (lock_list self.now.locks.inner) block Read readers.now }
-        requires writers { Held (open_list self.now.«open») (lock_list self.now.locks.inner) block Write writers.now }
-        ensures { More (open_list self.now.«open») (asks (in_block block) (R.allows rule.now) (lock_list self.now.locks.inner)) rows.old rows.new }
+        requires readers { Held self.now.«open».items self.now.locks.inner.items block Read readers.now }
+        requires writers { Held self.now.«open».items self.now.locks.inner.items block Write writers.now }
+        ensures { More self.now.«open».items (asks (in_block block) (R.allows rule.now) self.now.locks.inner.items) rows.old rows.new }
     {
-        for b in 0..self.open.len {
+        for b in 0..self.open.len() {
             rows[b] = rows[b].union(self.asked_in(rule, block, b, readers, writers));
         }
     }
@@ -128,8 +127,8 @@ impl Tables {
     /// Adds whom each that waits to commit waits for by its write locks in the block. By the order of the lock list
     /// every other reader of such an item stands before that write lock.
     fn add_commits(&self, block: u16, readers: &[Places; 1024], rows: &mut [Places; OPEN])
-        requires { Held (open_list self.now.«open») (lock_list self.now.locks.inner) block Read readers.now }
-        ensures { More (open_list self.now.«open») (commits (in_block block) (lock_list self.now.locks.inner) (lock_list self.now.locks.inner)) rows.old rows.new }
+        requires { Held self.now.«open».items self.now.locks.inner.items block Read readers.now }
+        ensures { More self.now.«open».items (commits (in_block block) self.now.locks.inner.items self.now.locks.inner.items) rows.old rows.new }
     {
         let locks = self.locks.list();
         for lock in locks {
@@ -162,8 +161,8 @@ impl Tables {
 
     /// Whether the transaction at the place `i` waits for somebody from whom a chain of waits leads back to it.
     pub(crate) fn closes_circle<R: LockRule>(&self, rule: &R, i: usize) -> bool
-        requires { i < self.now.«open».len }
-        ensures { Decides result (Circle (R.allows rule.now) (ledger_of self.now) (slice_index_or (open_list self.now.«open») i no_transaction).number) }
+        requires { i < length self.now.«open».items }
+        ensures { Decides result (Circle (R.allows rule.now) (ledger_of self.now) (slice_index_or self.now.«open».items i no_transaction).number) }
     {
         let rows = self.wait_rows(rule);
         let leading = leading_to(&rows, i);

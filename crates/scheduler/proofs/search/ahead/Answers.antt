@@ -1,7 +1,7 @@
 use Rattle.std.proofs.Common.{◌≡◌, ℕ, ◌-◌, ◌<◌, ◌≤◌, Bool, true, false, ◌&&◌, ◌||◌, [], length, get_or, drop, sym, ap, ◌∙◌, subst, ap₂, arith}
 use Rattle.std.proofs.lemmas.List.{at_drop_all}
 use Rattle.scheduler.specs.declared.lock.Kind.TheVariants.{Write}
-use Rattle.scheduler.specs.Arrays.{no_lock}
+use Rattle.scheduler.specs.Orders.{no_lock}
 use Rattle.scheduler.specs.Blockers.{ahead, reads_beside}
 use Rattle.scheduler.specs.Ledger.{holds, is_lock}
 use Rattle.scheduler.proofs.Scans.{ahead-found, ahead_front, ahead-later, holds_end, holds_front, is_write_of, no_write_of, or_swap}

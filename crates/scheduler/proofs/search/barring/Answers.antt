@@ -1,5 +1,5 @@
 use Rattle.std.proofs.Common.{ℕ, List, get_or, sym, ◌∙◌, subst}
-use Rattle.scheduler.specs.Arrays.{no_lock}
+use Rattle.scheduler.specs.Orders.{no_lock}
 use Rattle.scheduler.specs.Blockers.{In}
 use Rattle.scheduler.proofs.Scans.{barring_end, barring-here, barring_past}
 use Rattle.scheduler.proofs.search.barring.Goals as goal

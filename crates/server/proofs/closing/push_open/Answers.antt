@@ -1,7 +1,7 @@
 use Rattle.std.proofs.Common.{◌++◌, map, get_or, vec_items, ap, ◌∙◌}
 use Rattle.std.proofs.lemmas.List.{at_drop_all, at_drop_more}
 use Rattle.records.specs.AnswerRecords.{answer_bytes}
-use Rattle.scheduler.specs.Arrays.{no_transaction}
+use Rattle.scheduler.specs.Orders.{no_transaction}
 use Rattle.server.specs.Told.{bytes_of, still_open}
 use Rattle.server.proofs.Growing.{all_there, one_more}
 use Rattle.server.proofs.closing.push_open.Goals as goal

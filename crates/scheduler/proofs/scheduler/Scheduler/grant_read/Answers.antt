@@ -2,14 +2,13 @@ use Rattle.std.proofs.Common.{◌≡◌, false, ◌||◌, List, sym, ap, ◌∙�
 use Rattle.std.proofs.lemmas.Bool.{or_parts}
 use Rattle.scheduler.specs.declared.lock.Kind.TheVariants.{Read, Write}
 use Rattle.scheduler.specs.declared.lock.Lock.{Lock}
-use Rattle.scheduler.specs.Arrays.{lock_list}
 use Rattle.scheduler.specs.Ledger.{holds}
 use Rattle.scheduler.proofs.Freshness.{fresh-read}
 use Rattle.scheduler.proofs.scheduler.Scheduler.grant_read.Goals as goal
 
 pub grant-requires : goal.grant-requires
 grant-requires g c =
-    let ls = lock_list c.args.self.now.tables.locks.inner in
+    let ls = c.args.self.now.tables.locks.inner.items in
     let t = c.args.t in
     let i = c.args.item in
     record {

@@ -5,7 +5,6 @@ use Rattle.store.specs.Meaning.{answered}
 use Rattle.std.proofs.lemmas.Result.{err_from_is_err_and}
 use Rattle.scheduler.specs.declared.lock.Kind.TheVariants.{Write}
 use Rattle.scheduler.specs.declared.lock.Lock.{Lock}
-use Rattle.scheduler.specs.Arrays.{lock_list}
 use Rattle.scheduler.specs.Ledger.{holds}
 use Rattle.scheduler.specs.Steps.{full, value_put}
 use Rattle.scheduler.specs.Tables.{ledger_of}
@@ -14,7 +13,7 @@ use Rattle.scheduler.proofs.scheduler.Scheduler.grant_write.Goals as goal
 
 pub grant-requires : goal.grant-requires
 grant-requires g c =
-    let ls = lock_list c.args.self.now.tables.locks.inner in
+    let ls = c.args.self.now.tables.locks.inner.items in
     let t = c.args.t in
     let i = c.args.item in
     record {
@@ -31,7 +30,7 @@ passed (Some d) h = cc
 pub returns-in_err-put : goal.returns-in_err-put
 returns-in_err-put g c =
     let p = err_from_is_err_and c.from_residual.result c.from_residual.ensures.1 in
-    let ls = lock_list c.args.self.now.tables.locks.inner in
+    let ls = c.args.self.now.tables.locks.inner.items in
     let t = c.args.t in
     let i = c.args.item in
     let L = ledger_of c.args.self.now.tables in

@@ -3,7 +3,6 @@ use Rattle.std.proofs.lemmas.List.{length-set, take_all}
 use Rattle.std.proofs.lemmas.Bool.{both_ways}
 use Rattle.scheduler.specs.declared.lock.Kind.TheVariants.{Read}
 use Rattle.scheduler.specs.declared.lock.Lock.{Lock}
-use Rattle.scheduler.specs.Arrays.{open_list}
 use Rattle.scheduler.specs.Bits.{has}
 use Rattle.scheduler.specs.Edges.{Held, More, commits, committing, in_block}
 use Rattle.scheduler.specs.ItemSets.{no_places}
@@ -12,12 +11,12 @@ use Rattle.scheduler.proofs.tables.Tables.add_commits.Goals as goal
 use Rattle.scheduler.proofs.tables.Tables.add_commits.Goals.{then-counts+in-Some+then-is_committing, then-counts+in-Some+else-is_committing, then-counts+in_default, else-counts}
 
 pub loop-lock-init : goal.loop-lock-init
-loop-lock-init c = (c.list-locks.ensures, c.told-rows, commits-none (open_list c.args.self.now.open) c.list-locks.result.now c.args.block c.args.rows.now)
+loop-lock-init c = (c.list-locks.ensures, c.told-rows, commits-none c.args.self.now.open.items c.list-locks.result.now c.args.block c.args.rows.now)
 
 pub loop-lock-preserved : goal.loop-lock-preserved
 loop-lock-preserved c =
     let T = c.args.self.now in
-    let os = open_list T.open in
+    let os = T.open.items in
     let ls = c.list-locks.result.now in
     let k = c.loop-lock.lock-index in
     let w = c.args.block in
@@ -26,7 +25,7 @@ loop-lock-preserved c =
     let inv = c.loop-lock.invariant.2 in
     elim c.if-counts.branch [
       | then-counts+in-Some+then-is_committing v ↦
-          let lp : v.in-Some.b < length rows = omega (arith, c.loop-lock.invariant.1, v.in-Some.ensures.within, T.whole, T.few) in
+          let lp : v.in-Some.b < length rows = omega (arith, c.loop-lock.invariant.1, v.in-Some.ensures.within, T.few) in
           rw v.rows-is (
             c.loop-lock.invariant.0,
             length-set rows v.in-Some.b v.union.result ∙ c.loop-lock.invariant.1,
@@ -42,7 +41,7 @@ loop-lock-preserved c =
 pub returns : goal.returns
 returns c =
     let T = c.args.self.now in
-    let os = open_list T.open in
+    let os = T.open.items in
     let ls = c.list-locks.result.now in
     subst (λ (xs : List Lock). More os (commits (in_block c.args.block) xs xs) c.args.rows.now c.loop-lock.rows) c.loop-lock.invariant.0
     (subst (λ (xs : List Lock). More os (commits (in_block c.args.block) ls xs) c.args.rows.now c.loop-lock.rows) (take_all c.loop-lock.lock-index ls c.loop-lock-test.false) c.loop-lock.invariant.2)

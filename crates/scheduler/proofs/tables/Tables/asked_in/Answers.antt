@@ -2,7 +2,6 @@ use Rattle.std.proofs.Common.{◌≡◌, ℕ, ◌<◌, Bool, false, not, ◌&&�
 use Rattle.std.proofs.lemmas.Bool.{lt-ltb}
 use Rattle.scheduler.specs.declared.lock.Kind.TheVariants.{Read, Write}
 use Rattle.scheduler.specs.declared.transaction.State.TheVariants.{Waiting}
-use Rattle.scheduler.specs.Arrays.{lock_list, open_list}
 use Rattle.scheduler.specs.Bits.{has}
 use Rattle.scheduler.specs.Edges.{number_at}
 use Rattle.scheduler.specs.ItemSets.{no_places}
@@ -13,15 +12,15 @@ use Rattle.scheduler.proofs.tables.Tables.asked_in.Goals as goal
 pub returns-else-contains : goal.returns-else-contains
 returns-else-contains g c =
     let T = c.args.self.now in
-    let os = open_list T.open in
-    let ls = lock_list T.locks.inner in
+    let os = T.open.items in
+    let ls = T.locks.inner.items in
     let ok = g.R.LockRule.allows c.args.rule.now in
     let w = c.args.block in
     let b = c.args.b in
     let x = c.in-Read.item in
     let rs = c.args.readers.now in
     let ws = c.args.writers.now in
-    let lb : b < length os = omega (arith, c.requires.within, T.whole) in
+    let lb : b < length os = omega (arith, c.requires.within) in
     let small : b < 64 = omega (arith, c.requires.within, T.few) in
     let none : (ltb b (length os) && holds (number_at os b) x Write ls) ≡ false =
     sym (at-write os T.begins T.rising b lb ok ls w x Read c.if-item-block.true rs ws c.requires.readers c.requires.writers b small)
@@ -34,15 +33,15 @@ returns-else-contains g c =
 pub returns-in-Write : goal.returns-in-Write
 returns-in-Write g c =
     let T = c.args.self.now in
-    let os = open_list T.open in
-    let ls = lock_list T.locks.inner in
+    let os = T.open.items in
+    let ls = T.locks.inner.items in
     let ok = g.R.LockRule.allows c.args.rule.now in
     let w = c.args.block in
     let b = c.args.b in
     let x = c.in-Write.item in
     let rs = c.args.readers.now in
     let ws = c.args.writers.now in
-    let lb : b < length os = omega (arith, c.requires.within, T.whole) in
+    let lb : b < length os = omega (arith, c.requires.within) in
     write_row os T.begins T.rising b lb ok ls w x Write c.if-item-block-2.true rs ws c.requires.readers c.requires.writers c.in-Write.value refl (sym c.in-Waiting.ensures ∙ ap Waiting c.in-Write.is) c.without-in-Write.result.bits
     (bars_row os T.begins T.rising b lb ok ls w x Write c.if-item-block-2.true rs ws c.requires.readers c.requires.writers c.without-in-Write.result.bits
     (λ a. c.without-in-Write.ensures a ∙ ap (λ (t : Bool). t && not (eqb b a)) (c.barring-in-Write.ensures a ∙ ap (λ (n : ℕ). (not (ok Write Read) && has (get_or rs n no_places).bits a) || (not (ok Write Write) && has (get_or ws n no_places).bits a)) c.from-j-in-Write.ensures)))

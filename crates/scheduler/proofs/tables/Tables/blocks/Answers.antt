@@ -1,7 +1,7 @@
 use Rattle.std.proofs.Common.{ℕ, ◌/◌, ◌<◌, ◌||◌, eqb, List, get_or, ap, ◌∙◌, subst, rules}
 use Rattle.std.proofs.lemmas.List.{take_all}
 use Rattle.scheduler.specs.declared.lock.Lock.{Lock}
-use Rattle.scheduler.specs.Arrays.{no_lock}
+use Rattle.scheduler.specs.Orders.{no_lock}
 use Rattle.scheduler.specs.Bits.{has}
 use Rattle.scheduler.specs.Edges.{Covers}
 use Rattle.scheduler.proofs.Gathering.{covers_more, covers_none}

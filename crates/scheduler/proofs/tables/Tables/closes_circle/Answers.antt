@@ -1,6 +1,5 @@
 use Rattle.std.proofs.Common.{◌≡◌, ℕ, ◌<◌, ◌≤◌, true, false, length, get_or, sym, refl, ◌∙◌, arith, below_more}
 use Rattle.std.proofs.lemmas.Bool.{both_ways}
-use Rattle.scheduler.specs.Arrays.{open_list}
 use Rattle.scheduler.specs.Bits.{has}
 use Rattle.scheduler.specs.ItemSets.{no_places}
 use Rattle.scheduler.specs.Tables.{ledger_of}
@@ -12,8 +11,8 @@ pub returns-then-contains : goal.returns-then-contains
 returns-then-contains g c =
     let T = c.args.self.now in
     let p = c.loop-p.p in
-    let few : length (open_list T.open) ≤ 64 = omega (arith, T.whole, T.few) in
-    let in' : c.args.i < length (open_list T.open) = omega (arith, T.whole, c.requires) in (
+    let few : length T.open.items ≤ 64 = omega (arith, T.few) in
+    let in' : c.args.i < length T.open.items = omega (arith, c.requires) in (
       (λ _. round (g.R.LockRule.allows c.args.rule.now) (ledger_of T) c.wait_rows-rows.result few T.locks.orderly T.rising c.wait_rows-rows.ensures c.args.i in' p c.loop-p-test.true ((c.leading_to-leading.ensures p).0 c.if-leading-p.true) (sym c.if-contains.ensures)),
       λ _. refl,
     )
@@ -29,8 +28,8 @@ loop-p-preserved g c =
 pub returns : goal.returns
 returns g c =
     let T = c.args.self.now in
-    let few : length (open_list T.open) ≤ 64 = omega (arith, T.whole, T.few) in
-    let in' : c.args.i < length (open_list T.open) = omega (arith, T.whole, c.requires) in (
+    let few : length T.open.items ≤ 64 = omega (arith, T.few) in
+    let in' : c.args.i < length T.open.items = omega (arith, c.requires) in (
       (λ e. absurd (both_ways false refl e)),
       λ x. let u = unround (g.R.LockRule.allows c.args.rule.now) (ledger_of T) c.wait_rows-rows.result few T.locks.orderly T.rising c.wait_rows-rows.ensures c.args.i in' x in
           absurd (c.loop-p.invariant u.0 (omega (arith, u.1)) ((c.leading_to-leading.ensures u.0).1 u.2) u.3),

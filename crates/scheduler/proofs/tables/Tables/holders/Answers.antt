@@ -1,7 +1,7 @@
 use Rattle.std.proofs.Common.{◌≡◌, ℕ, ◌+◌, ◌%◌, ◌<◌, Bool, true, false, ◌&&◌, ◌||◌, eqb, ltb, List, length, get_or, take, set, sym, refl, ap, ◌∙◌, subst, arith}
 use Rattle.std.proofs.lemmas.List.{length-set, take_all}
 use Rattle.scheduler.specs.declared.lock.Lock.{Lock}
-use Rattle.scheduler.specs.Arrays.{no_lock, open_list}
+use Rattle.scheduler.specs.Orders.{no_lock}
 use Rattle.scheduler.specs.Bits.{has}
 use Rattle.scheduler.specs.Edges.{Held}
 use Rattle.scheduler.specs.ItemSets.{no_places}
@@ -13,12 +13,12 @@ nobody : (b : Bool) → false ≡ (b && false)
 nobody b = elim b as (λ x. false ≡ (x && false)) [ true ↦ refl | false ↦ refl ]
 
 pub loop-lock-init : goal.loop-lock-init
-loop-lock-init c = (c.list-locks.ensures, refl, λ j a lj la. blank 1024 j a ∙ nobody (ltb a (length (open_list c.args.self.now.open))))
+loop-lock-init c = (c.list-locks.ensures, refl, λ j a lj la. blank 1024 j a ∙ nobody (ltb a (length c.args.self.now.open.items)))
 
 pub loop-lock-preserved : goal.loop-lock-preserved
 loop-lock-preserved c =
     let T = c.args.self.now in
-    let os = open_list T.open in
+    let os = T.open.items in
     let ls = c.list-locks.result.now in
     let k = c.loop-lock.lock-index in
     let j = (get_or ls k no_lock).item % 1024 in
@@ -42,4 +42,4 @@ pub returns : goal.returns
 returns c =
     let T = c.args.self.now in
     let ls = c.list-locks.result.now in
-    subst (λ (xs : List Lock). Held (open_list T.open) xs c.args.block c.args.kind c.loop-lock.holders) (take_all c.loop-lock.lock-index ls c.loop-lock-test.false ∙ c.loop-lock.invariant.0) c.loop-lock.invariant.2
+    subst (λ (xs : List Lock). Held T.open.items xs c.args.block c.args.kind c.loop-lock.holders) (take_all c.loop-lock.lock-index ls c.loop-lock-test.false ∙ c.loop-lock.invariant.0) c.loop-lock.invariant.2

@@ -1,5 +1,4 @@
 use Rattle.std.proofs.Common.{◌≡◌, ℕ, replicate, sym, ap, ◌∙◌, subst, arith}
-use Rattle.scheduler.specs.Arrays.{lock_list, open_list}
 use Rattle.scheduler.specs.Bits.{has}
 use Rattle.scheduler.specs.ItemSets.{no_places}
 use Rattle.scheduler.proofs.Blockwise.{Upto, upto_add, upto_all, upto_none, upto_skip}
@@ -9,13 +8,13 @@ use Rattle.scheduler.proofs.tables.Tables.wait_rows.Goals.{then-contains, else-c
 
 pub loop-block-init : goal.loop-block-init
 loop-block-init g c =
-    upto_none (g.R.LockRule.allows c.args.rule.now) (open_list c.args.self.now.open) (lock_list c.args.self.now.locks.inner) (replicate 64 no_places) (blank 64)
+    upto_none (g.R.LockRule.allows c.args.rule.now) c.args.self.now.open.items c.args.self.now.locks.inner.items (replicate 64 no_places) (blank 64)
 
 pub loop-block-preserved : goal.loop-block-preserved
 loop-block-preserved g c =
     let ok = g.R.LockRule.allows c.args.rule.now in
-    let os = open_list c.args.self.now.open in
-    let ls = lock_list c.args.self.now.locks.inner in
+    let os = c.args.self.now.open.items in
+    let ls = c.args.self.now.locks.inner.items in
     let k = c.loop-block.block in
     elim c.if-contains.branch [
       | then-contains w ↦ rw w.rows-is (upto_add ok os ls k c.loop-block.rows _ _ c.loop-block.invariant w.add_asks.ensures w.add_commits.ensures)
@@ -26,7 +25,7 @@ loop-block-preserved g c =
 pub returns : goal.returns
 returns g c =
     let ok = g.R.LockRule.allows c.args.rule.now in
-    let os = open_list c.args.self.now.open in
-    let ls = lock_list c.args.self.now.locks.inner in
+    let os = c.args.self.now.open.items in
+    let ls = c.args.self.now.locks.inner.items in
     let all : c.loop-block.block ≡ 64 = omega arith in
     upto_all ok os ls c.blocks-blocks.result.bits c.blocks-blocks.ensures c.loop-block.rows (subst (λ (n : ℕ). Upto ok os ls n c.loop-block.rows) all c.loop-block.invariant)

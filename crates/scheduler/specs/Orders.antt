@@ -1,11 +1,9 @@
--- What the arrays of locks and of transactions stand for, and what always holds of them.
+-- What always holds of the list of locks and of the list of open transactions.
 use Rattle.std.specs.Prelude.{ℕ, Bool, true, not, ◌&&◌, ◌||◌, List, [], ◌∷◌, take, ◌==◌, nat_le, nat_lt}
 use Rattle.scheduler.specs.declared.lock.Kind.TheVariants.{Read, Write}
 use Rattle.scheduler.specs.declared.lock.Lock.{Lock}
-use Rattle.scheduler.specs.declared.lock_array.LockArray.{LockArray}
 use Rattle.scheduler.specs.declared.transaction.State.TheVariants.{Active}
 use Rattle.scheduler.specs.declared.transaction.Transaction.{Transaction}
-use Rattle.scheduler.specs.declared.transaction_array.TransactionArray.{TransactionArray}
 use Rattle.scheduler.specs.Ledger.{lock, same_kind, transaction}
 
 -- what a read past the end gives
@@ -14,13 +12,6 @@ no_lock = lock 0 0 Read
 
 abbrev pub no_transaction : Transaction
 no_transaction = transaction 0 Active
-
--- the locks in the order of granting
-abbrev pub lock_list : LockArray → List Lock
-lock_list a = take a.len a.at
-
-abbrev pub open_list : TransactionArray → List Transaction
-open_list a = take a.len a.at
 
 -- the lock m, standing behind l, is the same lock once more, or a read lock behind another's write lock on one item
 abbrev pub clashes : Lock → Lock → Bool
