@@ -1,77 +1,91 @@
--- The places of a number, of one power of two, of a union and of a difference.
-use lib.Bits.{bit_or, bit_xor, or_mod, or_shr, xor_mod, xor_shr}
-use Rattle.std.proofs.Common.{◌≡◌, ℕ, suc, ◌+◌, ◌-◌, ◌/◌, ◌%◌, ◌^◌, Bool, true, false, cond, not, ◌&&◌, ◌||◌, eqb, ◌⊎◌, sym, refl, ap, ◌∙◌, subst, ap₂, inl, inr, pow-suc, arith}
-use native.Mathlib.Nat.{div-eq_of_lt, div_self, mul-mod_left, zero-div}
-use Rattle.std.proofs.lemmas.Nat.{pow-add, pow_below, pow_pos, shl-shr}
-use Rattle.std.proofs.lemmas.Bool.{cases_Bool, cases_eq, cases_order, eq-eqb, eqb-true, ne_eqb}
+-- The places of a number are its bits.
+use lib.Bits.{bit_and, bit_or}
+use Rattle.std.proofs.Common.{Decides, ◌≡◌, ℕ, zero, suc, ◌*◌, ◌%◌, ◌^◌, ◌<◌, ◌≤◌, min, max, Bool, true, false, not, ◌&&◌, ◌||◌, eqb, sym, refl, ap, ◌∙◌, subst, inl, inr, w64, arith}
+use Rattle.std.specs.Int.{bit_not, trailing_zeros}
+use Rattle.std.proofs.lemmas.Bool.{and_from, and_parts, both_ways, cases_eq, cases_lt, eq-eqb, eqb-false, ne_eqb, not-true}
+use Rattle.std.proofs.lemmas.Nat.{and_le_l}
+use Rattle.std.proofs.lemmas.Nat.Bits.{bit_at-lt, bit_at-trailing_zeros, bit_at-zero, bit_at_above, bit_at_and, bit_at_clear_other, bit_at_clear_same, bit_at_or, bit_at_set_other, bit_at_set_same}
 use Rattle.scheduler.specs.Bits.{has}
 
-bit : (x : ℕ) → (x % 2 ≡ 0) ⊎ (x % 2 ≡ 1)
-bit x = elim (cases_eq (x % 2) 0) [ inl e ↦ inl e | inr n ↦ inr (omega arith) ]
+has_max : (x y : ℕ) → x < 2 → y < 2 → eqb (max x y) 1 ≡ (eqb x 1 || eqb y 1)
+has_max zero zero h k = refl
+has_max zero (suc zero) h k = refl
+has_max (suc zero) zero h k = refl
+has_max (suc zero) (suc zero) h k = refl
+has_max (suc (suc x)) y h k = absurd (omega arith)
+has_max x (suc (suc y)) h k = absurd (omega arith)
 
-or_bits : (u v : ℕ) → (u ≡ 0) ⊎ (u ≡ 1) → (v ≡ 0) ⊎ (v ≡ 1) → eqb (bit_or u v) 1 ≡ (eqb u 1 || eqb v 1)
-or_bits u v (inl e) (inl f) = ap₂ (λ (x y : ℕ). eqb (bit_or x y) 1) e f ∙ sym (ap₂ (λ (x y : ℕ). eqb x 1 || eqb y 1) e f)
-or_bits u v (inl e) (inr f) = ap₂ (λ (x y : ℕ). eqb (bit_or x y) 1) e f ∙ sym (ap₂ (λ (x y : ℕ). eqb x 1 || eqb y 1) e f)
-or_bits u v (inr e) (inl f) = ap₂ (λ (x y : ℕ). eqb (bit_or x y) 1) e f ∙ sym (ap₂ (λ (x y : ℕ). eqb x 1 || eqb y 1) e f)
-or_bits u v (inr e) (inr f) = ap₂ (λ (x y : ℕ). eqb (bit_or x y) 1) e f ∙ sym (ap₂ (λ (x y : ℕ). eqb x 1 || eqb y 1) e f)
-
-xor_bits : (u v : ℕ) → (u ≡ 0) ⊎ (u ≡ 1) → (v ≡ 0) ⊎ (v ≡ 1) → eqb (bit_xor u v) 1 ≡ cond (eqb v 1) (not (eqb u 1)) (eqb u 1)
-xor_bits u v (inl e) (inl f) = ap₂ (λ (x y : ℕ). eqb (bit_xor x y) 1) e f ∙ sym (ap₂ (λ (x y : ℕ). cond (eqb y 1) (not (eqb x 1)) (eqb x 1)) e f)
-xor_bits u v (inl e) (inr f) = ap₂ (λ (x y : ℕ). eqb (bit_xor x y) 1) e f ∙ sym (ap₂ (λ (x y : ℕ). cond (eqb y 1) (not (eqb x 1)) (eqb x 1)) e f)
-xor_bits u v (inr e) (inl f) = ap₂ (λ (x y : ℕ). eqb (bit_xor x y) 1) e f ∙ sym (ap₂ (λ (x y : ℕ). cond (eqb y 1) (not (eqb x 1)) (eqb x 1)) e f)
-xor_bits u v (inr e) (inr f) = ap₂ (λ (x y : ℕ). eqb (bit_xor x y) 1) e f ∙ sym (ap₂ (λ (x y : ℕ). cond (eqb y 1) (not (eqb x 1)) (eqb x 1)) e f)
-
-pub has_or : (a b p : ℕ) → has (bit_or a b) p ≡ (has a p || has b p)
-has_or a b p = ap (λ (n : ℕ). eqb (n % 2) 1) (or_shr a b p) ∙ ap (λ (n : ℕ). eqb n 1) (or_mod (a / 2 ^ p) (b / 2 ^ p) 1) ∙ or_bits (a / 2 ^ p % 2) (b / 2 ^ p % 2) (bit (a / 2 ^ p)) (bit (b / 2 ^ p))
-
-has_xor : (a b p : ℕ) → has (bit_xor a b) p ≡ cond (has b p) (not (has a p)) (has a p)
-has_xor a b p = ap (λ (n : ℕ). eqb (n % 2) 1) (xor_shr a b p) ∙ ap (λ (n : ℕ). eqb n 1) (xor_mod (a / 2 ^ p) (b / 2 ^ p) 1) ∙ xor_bits (a / 2 ^ p % 2) (b / 2 ^ p % 2) (bit (a / 2 ^ p)) (bit (b / 2 ^ p))
+has_min : (x y : ℕ) → x < 2 → y < 2 → eqb (min x y) 1 ≡ (eqb x 1 && eqb y 1)
+has_min zero zero h k = refl
+has_min zero (suc zero) h k = refl
+has_min (suc zero) zero h k = refl
+has_min (suc zero) (suc zero) h k = refl
+has_min (suc (suc x)) y h k = absurd (omega arith)
+has_min x (suc (suc y)) h k = absurd (omega arith)
 
 pub has-none : (p : ℕ) → has 0 p ≡ false
-has-none p = ap (λ (n : ℕ). eqb (n % 2) 1) (zero-div (2 ^ p))
+has-none p = ap (λ (n : ℕ). eqb n 1) (bit_at-zero p)
 
--- a power of two has its own place alone
-pub has_one : (k p : ℕ) → has (2 ^ k) p ≡ eqb k p
-has_one k p = elim (cases_order k p) [
-  | inl e ↦ subst (λ (q : ℕ). has (2 ^ k) q ≡ eqb k q) e (ap (λ (n : ℕ). eqb (n % 2) 1) (div_self (pow_pos k)) ∙ sym (eq-eqb k k refl))
-  | inr s ↦ elim s [
-    | inl l ↦ ap (λ (n : ℕ). eqb (n % 2) 1) (div-eq_of_lt (pow_below k p l)) ∙ sym (ne_eqb k p (λ e. omega arith))
-    | inr l ↦ higher (k - suc p) (omega arith) ∙ sym (ne_eqb k p (λ e. omega arith))
+pub has_or : (a b p : ℕ) → has (bit_or a b) p ≡ (has a p || has b p)
+has_or a b p = ap (λ (n : ℕ). eqb n 1) (bit_at_or a b p) ∙ has_max _ _ (bit_at-lt a p) (bit_at-lt b p)
+
+pub has_and : (a b p : ℕ) → has (bit_and a b) p ≡ (has a p && has b p)
+has_and a b p = ap (λ (n : ℕ). eqb n 1) (bit_at_and a b p) ∙ has_min _ _ (bit_at-lt a p) (bit_at-lt b p)
+
+or_false : (b : Bool) → b ≡ (b || false)
+or_false true = refl
+or_false false = refl
+
+or_true : (b : Bool) → true ≡ (b || true)
+or_true true = refl
+or_true false = refl
+
+and_true : (b : Bool) → b ≡ (b && true)
+and_true true = refl
+and_true false = refl
+
+and_false : (b : Bool) → false ≡ (b && false)
+and_false true = refl
+and_false false = refl
+
+pub has_set : (n k : ℕ) → k < 64 → (p : ℕ) → has (bit_or n (1 * 2 ^ k % 2 ^ 64)) p ≡ (has n p || eqb k p)
+has_set n k l p = elim (cases_eq p k) [
+  | inl e ↦
+      subst (λ (q : ℕ). has (bit_or n (1 * 2 ^ k % 2 ^ 64)) q ≡ (has n q || eqb k q)) (sym e)
+      (ap (λ (x : ℕ). eqb x 1) (bit_at_set_same w64 n k l) ∙ or_true (has n k) ∙ ap (λ (b : Bool). has n k || b) (sym (eq-eqb k k refl)))
+  | inr ne ↦ ap (λ (x : ℕ). eqb x 1) (bit_at_set_other w64 n k l p ne) ∙ or_false (has n p) ∙ ap (λ (b : Bool). has n p || b) (sym (ne_eqb k p (λ e. ne (sym e))))
+]
+
+has_above : (n p : ℕ) → n < 2 ^ 64 → 64 ≤ p → has n p ≡ false
+has_above n p l h = ap (λ (x : ℕ). eqb x 1) (bit_at_above n 64 p l h)
+
+pub has_clear : (n k : ℕ) → k < 64 → n < 2 ^ 64 → (p : ℕ) → has (bit_and n (bit_not w64 (1 * 2 ^ k % 2 ^ 64))) p ≡ (has n p && not (eqb k p))
+has_clear n k l small p = elim (cases_eq p k) [
+  | inl e ↦
+      subst (λ (q : ℕ). has (bit_and n (bit_not w64 (1 * 2 ^ k % 2 ^ 64))) q ≡ (has n q && not (eqb k q))) (sym e)
+      (ap (λ (x : ℕ). eqb x 1) (bit_at_clear_same w64 n k l) ∙ and_false (has n k) ∙ ap (λ (b : Bool). has n k && not b) (sym (eq-eqb k k refl)))
+  | inr ne ↦ elim (cases_lt p 64) [
+    | inl in' ↦ ap (λ (x : ℕ). eqb x 1) (bit_at_clear_other w64 n k l p in' ne) ∙ and_true (has n p) ∙ ap (λ (b : Bool). has n p && not b) (sym (ne_eqb k p (λ e. ne (sym e))))
+    | inr out ↦ has_and n (bit_not w64 (1 * 2 ^ k % 2 ^ 64)) p ∙ ap (λ (b : Bool). b && has (bit_not w64 (1 * 2 ^ k % 2 ^ 64)) p) (has_above n p small out) ∙ sym (ap (λ (b : Bool). b && not (eqb k p)) (has_above n p small out))
   ]
 ]
-  where
-    higher : (d : ℕ) → k ≡ suc d + p → has (2 ^ k) p ≡ false
-    higher d e =
-        ap (λ (n : ℕ). eqb (n % 2) 1) (ap (λ (n : ℕ). 2 ^ n / 2 ^ p) e ∙ ap (λ (n : ℕ). n / 2 ^ p) (pow-add 2 (suc d) p) ∙ shl-shr (2 ^ suc d) p ∙ pow-suc 2 d)
-        ∙ ap (λ (n : ℕ). eqb n 1) (mul-mod_left (2 ^ d) 2)
 
-pub has-with : (a k p : ℕ) → has (bit_or a (2 ^ k)) p ≡ (has a p || eqb k p)
-has-with a k p = has_or a (2 ^ k) p ∙ ap (λ (b : Bool). has a p || b) (has_one k p)
-
--- the place k is taken out where it is in
-pub has-without : (a k p : ℕ) → has a k ≡ true → has (bit_xor a (2 ^ k)) p ≡ (has a p && not (eqb k p))
-has-without a k p h = has_xor a (2 ^ k) p ∙ ap (λ (b : Bool). cond b (not (has a p)) (has a p)) (has_one k p) ∙ go (cases_Bool (eqb k p))
+-- two numbers share a place exactly if what they share is not 0
+pub has_shared : (a b : ℕ) → a < 2 ^ 64 → Decides (not (eqb (bit_and a b) 0)) ((p : ℕ) × (has a p ≡ true) × (has b p ≡ true))
+has_shared a b small = (there, back)
   where
-    go : (eqb k p ≡ true) ⊎ (eqb k p ≡ false) → cond (eqb k p) (not (has a p)) (has a p) ≡ (has a p && not (eqb k p))
-    go (inl e) =
-        let at : has a p ≡ true = subst (λ (q : ℕ). has a q ≡ true) (eqb-true k p e) h in
-        ap₂ (λ (b c : Bool). cond b (not c) c) e at ∙ sym (ap₂ (λ (b c : Bool). c && not b) e at)
-    go (inr e) = ap (λ (b : Bool). cond b (not (has a p)) (has a p)) e ∙ rest (has a p) ∙ sym (ap (λ (b : Bool). has a p && not b) e)
+    there : not (eqb (bit_and a b) 0) ≡ true → (p : ℕ) × (has a p ≡ true) × (has b p ≡ true)
+    there h =
+        let p = trailing_zeros w64 (bit_and a b) in
+        let one = (bit_at-trailing_zeros w64 (bit_and a b) (positive (eqb-false (bit_and a b) 0 (not-true _ h))) (below (and_le_l a b) small)).1 in
+        let both = and_parts (has a p) (has b p) (sym (has_and a b p) ∙ ap (λ (n : ℕ). eqb n 1) one) in
+        (p, both.0, both.1)
       where
-        rest : (b : Bool) → b ≡ (b && true)
-        rest true = refl
-        rest false = refl
+        positive : {n : ℕ} → (n ≡ 0 → ⊥) → 0 < n
+        positive ne = omega arith
 
--- the place k is not in, so that taking it out changes nothing
-pub has_absent : (a k p : ℕ) → has a k ≡ false → has a p ≡ (has a p && not (eqb k p))
-has_absent a k p h = go (cases_Bool (eqb k p))
-  where
-    keep : (b : Bool) → b ≡ (b && true)
-    keep true = refl
-    keep false = refl
+        below : {n m : ℕ} → n ≤ m → m < 2 ^ 64 → n < 2 ^ 64
+        below l h = omega (arith, l, h)
 
-    go : (eqb k p ≡ true) ⊎ (eqb k p ≡ false) → has a p ≡ (has a p && not (eqb k p))
-    go (inl e) =
-        let at : has a p ≡ false = subst (λ (q : ℕ). has a q ≡ false) (eqb-true k p e) h in
-        at ∙ sym (ap (λ (b : Bool). b && not (eqb k p)) at)
-    go (inr e) = keep (has a p) ∙ sym (ap (λ (b : Bool). has a p && not b) e)
+    back : (p : ℕ) × (has a p ≡ true) × (has b p ≡ true) → not (eqb (bit_and a b) 0) ≡ true
+    back q = ap not (ne_eqb (bit_and a b) 0 (λ e. both_ways (has (bit_and a b) q.0) (ap (λ (n : ℕ). has n q.0) e ∙ has-none q.0) (has_and a b q.0 ∙ and_from (has a q.0) (has b q.0) q.1 q.2)))

@@ -1,6 +1,6 @@
 -- A lock that is granted may be put at the end.
-use Rattle.std.proofs.Common.{◌≡◌, ℕ, true, false, not, ◌&&◌, ◌||◌, eqb, ◌⊎◌, List, [], refl, ap, subst, inl, inr}
-use Rattle.std.proofs.lemmas.Bool.{and_parts, both_ways, cases_Bool, eqb-false, eqb-true, not-true, or_cases}
+use Rattle.std.proofs.Common.{◌≡◌, ℕ, Bool, true, false, cond, not, ◌&&◌, ◌||◌, eqb, ◌⊎◌, List, [], IfSome, Some, None, refl, ap, subst, inl, inr}
+use Rattle.std.proofs.lemmas.Bool.{and_parts, both_ways, cases_Bool, eqb-false, eqb-true, not-true, or_cases, or_parts}
 use Rattle.scheduler.specs.declared.lock.Kind.{Kind}
 use Rattle.scheduler.specs.declared.lock.Kind.TheVariants.{Read, Write}
 use Rattle.scheduler.specs.declared.lock.Lock.{Lock}
@@ -8,7 +8,7 @@ use Rattle.scheduler.specs.declared.transaction.Ask.TheVariants.{Read as ask_rea
 use Rattle.scheduler.specs.Orders.{clashes}
 use Rattle.scheduler.specs.Blockers.{In, Rule, blockers}
 use Rattle.scheduler.specs.Fresh.{Fresh}
-use Rattle.scheduler.specs.Ledger.{holds, lock, same_kind}
+use Rattle.scheduler.specs.Ledger.{holds, lock, missing, same_kind}
 use Rattle.scheduler.proofs.Blocking.{no_writer}
 use Rattle.scheduler.proofs.Locks.{in_holds, lock_eq, same_kind_eq}
 
@@ -45,3 +45,18 @@ fresh-write t i ls w l m = no_clash l (lock t i Write) (λ e. let c = clash_case
   | inl s ↦ both_ways (holds t i Write ls) w (twice t i Write ls l m c.0 s.0 s.1)
   | inr s ↦ both_ways (same_kind Write Read) refl (ap (λ (k : Kind). same_kind k Read) s.2)
 ])
+
+-- the lock that is missing may be put at the end
+pub missing-read : (ok : Rule) → ok Read Write ≡ false → (t i : ℕ) (ls : List Lock) → blockers ok ls t (ask_read i) ≡ [] → IfSome (missing t i Read ls) (Fresh ls)
+missing-read ok law t i ls free = go (holds t i Read ls || holds t i Write ls) refl
+  where
+    go : (b : Bool) → (holds t i Read ls || holds t i Write ls) ≡ b → IfSome (cond b None (Some (lock t i Read))) (Fresh ls)
+    go true e = tt
+    go false e = let parts = or_parts (holds t i Read ls) (holds t i Write ls) e in fresh-read ok law t i ls free parts.0 parts.1
+
+pub missing-write : (t i : ℕ) (ls : List Lock) → IfSome (missing t i Write ls) (Fresh ls)
+missing-write t i ls = go (holds t i Write ls) refl
+  where
+    go : (b : Bool) → holds t i Write ls ≡ b → IfSome (cond b None (Some (lock t i Write))) (Fresh ls)
+    go true e = tt
+    go false e = fresh-write t i ls e

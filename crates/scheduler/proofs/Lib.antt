@@ -8,6 +8,7 @@ pub mod Bit
 pub mod ItemSet
 pub mod Scans
 pub mod Freshness
+pub mod Missing
 pub mod Circling
 pub mod Reaching
 pub mod Edging

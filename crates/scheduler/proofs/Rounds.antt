@@ -66,19 +66,18 @@ module _ (ok : Rule) (L : Ledger) (rows : List Places) (few : length L.opens ≤
         let y : Waits ok L (number_at L.opens p) (number_at L.opens o.0) = subst (λ (n : ℕ). Waits ok L n (number_at L.opens o.0)) (sym q) (subst (Waits ok L u) (sym o.2) x) in
         next p r b (drawn o.0 p a b ∙ waits-edge p o.0 l o.1 y)
 
-    pub round : (p : ℕ) → p < 64 → Way (back rows) i p → has (get_or rows i no_places).bits p ≡ true → Circle ok L (number_at L.opens i)
-    round p l w h = record {
+    pub round : (p : ℕ) → Way (back rows) i p → has (get_or rows i no_places).bits p ≡ true → Circle ok L (number_at L.opens i)
+    round p w h = record {
       blocker = number_at L.opens p;
-      waits = edge-waits i p (sym (drawn p i l (omega arith)) ∙ h);
+      waits = edge-waits i p (sym (drawn p i (way_chain w).0 (omega arith)) ∙ h);
       back = (way_chain w).1;
     }
 
-    pub unround : Circle ok L (number_at L.opens i) → (p : ℕ) × (p < 64) × Way (back rows) i p × (has (get_or rows i no_places).bits p ≡ true)
+    pub unround : Circle ok L (number_at L.opens i) → (p : ℕ) × Way (back rows) i p × (has (get_or rows i no_places).bits p ≡ true)
     unround c =
         let o = open-first c.back refl in
         let l : o.0 < 64 = omega (arith, o.1) in (
           o.0,
-          l,
           chain_way c.back refl o.0 o.1 o.2,
           drawn o.0 i l (omega arith) ∙ waits-edge i o.0 in' o.1 (subst (Waits ok L (number_at L.opens i)) (sym o.2) c.waits),
         )

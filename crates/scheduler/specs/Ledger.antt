@@ -1,5 +1,6 @@
 -- What the scheduler keeps, and how a call with its answer changes it. The same definition is the ledger of a run.
 use Rattle.std.specs.Prelude.{ℕ, ◌+◌, Bool, true, false, cond, not, ◌&&◌, ◌||◌, List, [], ◌∷◌, ◌++◌, Some, None, Ok, Err, filter, Option, Result, ◌==◌}
+use Rattle.std.specs.List.{list_any}
 use Rattle.records.specs.declared.refusal.Refusal.{Refusal}
 use Rattle.records.specs.declared.request.Request.{Request}
 use Rattle.records.specs.declared.request.Request.TheVariants.{Begin, Read, Write, Commit, Abort, Retry}
@@ -45,8 +46,21 @@ is_lock t i k l = l.owner == t && (l.item == i && same_kind l.kind k)
 
 -- t holds a lock of the kind k on the item i
 abbrev pub holds : ℕ → ℕ → Kind → List Lock → Bool
-holds t i k [] = false
-holds t i k (l ∷ ls) = is_lock t i k l || holds t i k ls
+holds t i k = list_any (is_lock t i k)
+
+-- a lock of t's serves for the kind: for a read any, for a write a write lock
+abbrev pub serves : ℕ → ℕ → Kind → List Lock → Bool
+serves t i read_kind ls = holds t i read_kind ls || holds t i write_kind ls
+serves t i write_kind ls = holds t i write_kind ls
+
+-- the lock that t lacks for the kind, if it does
+abbrev pub missing : ℕ → ℕ → Kind → List Lock → Option Lock
+missing t i k ls = cond (serves t i k ls) None (Some (lock t i k))
+
+-- the locks with one more at the end, if there is one
+abbrev pub added : Option Lock → List Lock → List Lock
+added None ls = ls
+added (Some l) ls = ls ++ l ∷ []
 
 -- t's read lock is added at the end if t has no lock on the item
 abbrev pub with_read : ℕ → ℕ → List Lock → List Lock

@@ -17,3 +17,4 @@ pub mod Calls
 pub mod Ways
 pub mod Edges
 pub mod Situations
+pub mod Seen

@@ -1,5 +1,5 @@
 -- What each call is answered, at any state of the tables and of the store.
-use Rattle.std.specs.Prelude.{◌≡◌, ℕ, ◌+◌, Bool, true, false, cond, not, ◌&&◌, ◌||◌, List, [], ◌∷◌, length, ℤ, Some, None, Ok, Err, Option, Result, ◌==◌, nat_le}
+use Rattle.std.specs.Prelude.{◌≡◌, ℕ, ◌+◌, Bool, true, false, cond, not, ◌&&◌, ◌||◌, List, [], ◌∷◌, length, ℤ, is_some, Some, None, Ok, Err, Option, Result, ◌==◌, nat_le}
 use Rattle.records.specs.declared.refusal.Layer.TheVariants.{Scheduler}
 use Rattle.records.specs.declared.refusal.Reason.{Reason}
 use Rattle.records.specs.declared.refusal.Reason.TheVariants.{NotOpen, Waiting as is_waiting, NotWaiting, NoSuchItem, TooManyOpen, NumbersSpent, LockListFull, Pair, PendingAtOpening}
@@ -7,6 +7,7 @@ use Rattle.records.specs.declared.refusal.Refusal.{Refusal}
 use Rattle.records.specs.declared.request.Request.{Request}
 use Rattle.records.specs.declared.request.Request.TheVariants.{Begin, Read, Write, Commit, Abort, Retry}
 use Rattle.store.specs.Meaning.{Writes, looked, refused}
+use Rattle.scheduler.specs.declared.lock.Lock.{Lock}
 use Rattle.scheduler.specs.declared.lock.Kind.TheVariants.{Read as read_kind, Write as write_kind}
 use Rattle.scheduler.specs.declared.transaction.Ask.{Ask}
 use Rattle.scheduler.specs.declared.transaction.Ask.TheVariants.{Read as ask_read, Write as ask_write, Commit as ask_commit}
@@ -71,6 +72,10 @@ no_item size ask_commit = false
 
 abbrev pub full : Ledger → Bool
 full L = nat_le 2048 (length L.locks)
+
+-- a missing lock is refused where the list is full
+abbrev pub with_room : Option Lock → Ledger → Result (Option Lock) Refusal
+with_room l L = cond (is_some l && full L) (Err (of_scheduler LockListFull)) (Ok l)
 
 abbrev pub value_read : ℕ → ℕ → Result ℤ Refusal → Answer
 value_read t i (Ok v) = Ok (Value t i v)

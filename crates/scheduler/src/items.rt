@@ -15,7 +15,7 @@ impl Items {
         ensures { (x : ℕ) → has_item result.words x ≡ false }
     {
         Items {
-            words: [Places { bits: 0 }; 1024],
+            words: [Places::NONE; 1024],
         }
     }
 

@@ -1,22 +1,24 @@
 // Finding, opening, restating and closing transactions in the tables.
-ghost use Rattle.std.specs.Prelude.{◌≡◌, ◌+◌, ◌<◌, false, not, ◌&&◌, length, slice_index_or};
+ghost use Rattle.std.specs.Prelude.{◌≡◌, ◌+◌, ◌<◌, length, IfOk, IfSome, slice_index_or};
 ghost use Rattle.scheduler.specs.Orders.{no_transaction};
 ghost use Rattle.scheduler.specs.Blockers.{blockers};
 ghost use Rattle.scheduler.specs.Found.{At, Found};
 ghost use Rattle.scheduler.specs.Fresh.{Fresh};
-ghost use Rattle.scheduler.specs.Ledger.{empty, struck};
+ghost use Rattle.scheduler.specs.Ledger.{empty, missing, struck};
 ghost use Rattle.scheduler.specs.Moves.{begun, given, moved};
 ghost use Rattle.scheduler.specs.Picked.{Picked};
-ghost use Rattle.scheduler.specs.Steps.{full};
+ghost use Rattle.scheduler.specs.Steps.{with_room};
 ghost use Rattle.scheduler.specs.Tables.{ledger_of};
 
-use crate::lock::Lock;
+use crate::lock::{Kind, Lock};
 use crate::lock_list::LockList;
+use crate::refusal::refusal;
 use crate::rule::LockRule;
 use crate::search;
 use crate::tables::Tables;
 use crate::transaction::{Ask, State, Transaction};
 use arrayvec::ArrayVec;
+use records::refusal::{Reason, Refusal};
 
 impl Tables {
     pub(crate) fn new() -> Tables
@@ -82,22 +84,31 @@ impl Tables {
         self.locks.remove_owner(t);
     }
 
-    /// Whether a lock that is not there yet finds the list full.
-    pub(crate) fn lacks_room(&self, locked: bool) -> bool
-        ensures value { result ≡ (not locked && full (ledger_of self.now)) }
-        ensures room { result ≡ false → locked ≡ false → length self.now.locks.inner.items < 2048 }
+    /// The lock that the transaction lacks for the kind on the item, if it does; refused where the list is full.
+    pub(crate) fn missing(
+        &self,
+        t: u16,
+        item: u16,
+        kind: Kind,
+    ) -> Result<Option<Lock>, Refusal>
+        ensures answer { result ≡ with_room (missing t item kind self.now.locks.inner.items) (ledger_of self.now) }
+        ensures room { IfOk result (λ l. IfSome l (λ _. length self.now.locks.inner.items < 2048)) }
     {
-        !locked && self.locks.is_full()
+        let missing = search::missing(self.locks.list(), t, item, kind);
+        if missing.is_some() && self.locks.is_full() {
+            return Err(refusal(Reason::LockListFull));
+        }
+        Ok(missing)
     }
 
-    /// Gives the transaction at the place `i` the lock, unless it has one that does, and makes it active.
-    pub(crate) fn grant(&mut self, i: usize, lock: Lock, locked: bool)
-        requires at { At self.old.«open».items lock.owner i }
-        requires room { locked ≡ false → length self.old.locks.inner.items < 2048 }
-        requires fresh { locked ≡ false → Fresh self.old.locks.inner.items lock }
-        ensures { ledger_of self.new ≡ given lock locked (ledger_of self.old) }
+    /// Puts the missing lock at the end, if there is one, and makes the transaction at the place `i` active.
+    pub(crate) fn grant(&mut self, i: usize, missing: Option<Lock>)
+        requires within { i < length self.old.«open».items }
+        requires room { IfSome missing (λ _. length self.old.locks.inner.items < 2048) }
+        requires fresh { IfSome missing (Fresh self.old.locks.inner.items) }
+        ensures { ledger_of self.new ≡ given i missing (ledger_of self.old) }
     {
-        if !locked {
+        if let Some(lock) = missing {
             self.locks.push(lock);
         }
         self.restate(i, State::Active);

@@ -1,19 +1,15 @@
 // Sets of up to 64 places.
-ghost use Rattle.std.specs.Prelude.{◌≡◌, ℕ, ◌<◌, not, ◌&&◌, ◌||◌, ◌==◌};
+ghost use Rattle.std.specs.Prelude.{◌≡◌, ℕ, ◌<◌, ◌≤◌, true, not, ◌&&◌, ◌||◌, ◌==◌, Decides};
 ghost use Rattle.scheduler.specs.Bits.{has};
 
 /// A set of places below 64.
-#[derive(Clone, Copy)]
+#[derive(Clone, Copy, PartialEq, Eq, Debug)]
 pub struct Places {
     pub(crate) bits: u64,
 }
 
 impl Places {
-    pub(crate) fn none() -> Places
-        ensures { result.bits ≡ 0 }
-    {
-        Places { bits: 0 }
-    }
+    pub(crate) const NONE: Places = Places { bits: 0 };
 
     pub(crate) fn contains(self, place: usize) -> bool
         requires { place < 64 }
@@ -22,9 +18,17 @@ impl Places {
         (self.bits >> place) % 2 == 1
     }
 
+    /// Whether the two sets share a place.
+    pub(crate) fn meets(self, other: Places) -> bool
+        ensures { Decides result ((p : ℕ) × (has self.bits p ≡ true) × (has other.bits p ≡ true)) }
+    {
+        self.bits & other.bits != 0
+    }
+
     pub(crate) fn with(self, place: usize) -> Places
         requires { place < 64 }
-        ensures { (p : ℕ) → has result.bits p ≡ (has self.bits p || place == p) }
+        ensures value { (p : ℕ) → has result.bits p ≡ (has self.bits p || place == p) }
+        ensures grows { self.bits ≤ result.bits }
     {
         Places {
             bits: self.bits | (1 << place),
@@ -43,12 +47,8 @@ impl Places {
         requires { place < 64 }
         ensures { (p : ℕ) → has result.bits p ≡ (has self.bits p && not (place == p)) }
     {
-        if self.contains(place) {
-            Places {
-                bits: self.bits ^ (1 << place),
-            }
-        } else {
-            self
+        Places {
+            bits: self.bits & !(1 << place),
         }
     }
 }

@@ -1,30 +1,35 @@
 // Which places lead to a place.
-ghost use Rattle.std.specs.Prelude.{ℕ, ◌<◌, false, Decides, slice_index_or};
-ghost use Rattle.scheduler.specs.Ways.{Way, back};
+ghost use Rattle.std.specs.Prelude.{ℕ, ◌<◌, Decides};
+ghost use Rattle.scheduler.specs.Bits.{has};
+ghost use Rattle.scheduler.specs.Ways.{Way, Widened, back};
 
 use crate::places::Places;
 
-/// Where `rows` has for each place the places that it waits for: the places from which a way leads to `to`.
-pub(crate) fn leading_to(rows: &[Places; 64], to: usize) -> [bool; 64]
-    requires { to < 64 }
-    ensures { (p : ℕ) → Decides (slice_index_or result p false) (Way (back rows.now) to p) }
+/// Where `rows` has for each place the places that it waits for: the marked places, and those that wait for one of
+/// them.
+fn widened(rows: &[Places; 64], marked: Places) -> Places
+    ensures { Widened rows.now marked.bits result.bits }
 {
-    let mut marked = [false; 64];
-    let mut work = [0usize; 64];
-    marked[to] = true;
-    work[0] = to;
-    let mut len = 1;
-    let mut done = 0;
-    while done < len {
-        let a = work[done];
-        for b in 0..64 {
-            if !marked[b] && rows[b].contains(a) {
-                marked[b] = true;
-                work[len] = b;
-                len += 1;
-            }
+    let mut wider = marked;
+    for (place, row) in rows.iter().enumerate() {
+        if row.meets(marked) {
+            wider = wider.with(place);
         }
-        done += 1;
     }
-    marked
+    wider
+}
+
+/// Where `rows` has for each place the places that it waits for: the places from which a way leads to `to`.
+pub(crate) fn leading_to(rows: &[Places; 64], to: usize) -> Places
+    requires { to < 64 }
+    ensures { (p : ℕ) → Decides (has result.bits p) (Way (back rows.now) to p) }
+{
+    let mut marked = Places::NONE.with(to);
+    loop {
+        let wider = widened(rows, marked);
+        if wider == marked {
+            return marked;
+        }
+        marked = wider;
+    }
 }

@@ -3,7 +3,7 @@ ghost use Rattle.std.specs.Prelude.{◌≡◌, ◌&&◌, ◌||◌};
 ghost use Rattle.scheduler.specs.declared.lock.Kind.TheVariants.{Read, Write};
 ghost use Rattle.scheduler.specs.Blockers.{ahead, barring, bars, blockers, reads_beside};
 ghost use Rattle.scheduler.specs.ItemSets.{has_item};
-ghost use Rattle.scheduler.specs.Ledger.{holds, is_lock};
+ghost use Rattle.scheduler.specs.Ledger.{holds, is_lock, missing};
 ghost use Rattle.scheduler.specs.Picked.{Picked};
 
 use crate::items::Items;
@@ -22,12 +22,7 @@ fn is_lock(lock: Lock, t: u16, item: u16, kind: Kind) -> bool
 pub(crate) fn holds(locks: &[Lock], t: u16, item: u16, kind: Kind) -> bool
     ensures { result ≡ holds t item kind locks.now }
 {
-    for lock in locks {
-        if is_lock(*lock, t, item, kind) {
-            return true;
-        }
-    }
-    false
+    locks.iter().any(|lock| is_lock(*lock, t, item, kind))
 }
 
 /// Whether the transaction holds a lock on the item.
@@ -35,6 +30,25 @@ pub(crate) fn holds_any(locks: &[Lock], t: u16, item: u16) -> bool
     ensures { result ≡ (holds t item Read locks.now || holds t item Write locks.now) }
 {
     holds(locks, t, item, Kind::Read) || holds(locks, t, item, Kind::Write)
+}
+
+/// The lock of the kind on the item, unless the transaction has one that serves: for a read any, for a write a write
+/// lock.
+pub(crate) fn missing(locks: &[Lock], t: u16, item: u16, kind: Kind) -> Option<Lock>
+    ensures { result ≡ missing t item kind locks.now }
+{
+    let serves = match kind {
+        Kind::Read => holds_any(locks, t, item),
+        Kind::Write => holds(locks, t, item, Kind::Write),
+    };
+    if serves {
+        return None;
+    }
+    Some(Lock {
+        owner: t,
+        item,
+        kind,
+    })
 }
 
 /// Whether `lock` is another transaction's on the item, and the rule says no to the kind beside it.
@@ -48,12 +62,10 @@ fn bars<R: LockRule>(lock: Lock, rule: &R, t: u16, item: u16, kind: Kind) -> boo
 fn barring<R: LockRule>(locks: &[Lock], rule: &R, t: u16, item: u16, kind: Kind) -> Option<u16>
     ensures { Picked result (barring (R.allows rule.now) t item kind locks.now) }
 {
-    for lock in locks {
-        if bars(*lock, rule, t, item, kind) {
-            return Some(lock.owner);
-        }
-    }
-    None
+    let lock = locks
+        .iter()
+        .find(|lock| bars(**lock, rule, t, item, kind))?;
+    Some(lock.owner)
 }
 
 /// Whether `lock` is another transaction's read lock on one of the items.
@@ -69,12 +81,11 @@ fn ahead(locks: &[Lock], t: u16) -> Option<u16>
     ensures { Picked result (ahead t locks.now) }
 {
     let mut written = Items::none();
-    for i in (0..locks.len()).rev() {
-        let lock = locks[i];
-        if reads_one_of(lock, t, &written) {
+    for lock in locks.iter().rev() {
+        if reads_one_of(*lock, t, &written) {
             return Some(lock.owner);
         }
-        if is_lock(lock, t, lock.item, Kind::Write) {
+        if is_lock(*lock, t, lock.item, Kind::Write) {
             written.insert(lock.item);
         }
     }

@@ -1,42 +1,30 @@
 // The steps of a call.
-ghost use Rattle.std.specs.Prelude.{◌≡◌, ◌<◌, [], length, Some, None, Ok};
-ghost use Rattle.store.specs.Meaning.{held_count};
-ghost use Rattle.scheduler.specs.declared.lock.Kind.TheVariants.{Read, Write};
+ghost use Rattle.std.specs.Prelude.{◌≡◌, [], Some, None, Ok};
 ghost use Rattle.scheduler.specs.declared.transaction.Ask.TheVariants.{Read as AskRead, Write as AskWrite};
 ghost use Rattle.records.specs.declared.request.Request.TheVariants.{Begin};
-ghost use Rattle.scheduler.specs.Blockers.{In, blockers};
+ghost use Rattle.scheduler.specs.Blockers.{In};
 ghost use Rattle.scheduler.specs.Calls.{called, sought};
 ghost use Rattle.scheduler.specs.Found.{At};
-ghost use Rattle.scheduler.specs.Ledger.{asked, empty, state_of};
-ghost use Rattle.scheduler.specs.Steps.{Answers, Blocked, Done, Placed, checked, granted, no_item, of_scheduler, pair_refusal, terms};
-ghost use Rattle.scheduler.specs.Situations.{situation};
-ghost use Rattle.scheduler.specs.Stepped.{Stepped};
+ghost use Rattle.scheduler.specs.Ledger.{empty, state_of};
+ghost use Rattle.scheduler.specs.Steps.{Blocked, checked};
 ghost use Rattle.scheduler.specs.Tables.{ledger_of};
+ghost use Rattle.scheduler.specs.Seen.{Answered, Called, Does, Kept, Moved, Tries, blockers_in, granted_by, refusal_of};
 
 use crate::call::Call;
-use crate::lock::{Kind, Lock};
+use crate::lock::Kind;
 use crate::reply::Reply;
+use crate::refusal::refusal;
 use crate::rule::LockRule;
 use crate::scheduler::Scheduler;
-use crate::search;
 use crate::tables::{BEGINS, OPEN, Tables};
 use crate::transaction::{Ask, State, Transaction};
-use records::refusal::{Layer, Reason, Refusal};
+use records::refusal::{Reason, Refusal};
 use records::request::Request;
 use store::store::Store;
 
-fn refusal(reason: Reason) -> Refusal
-    ensures { result ≡ of_scheduler reason }
-{
-    Refusal {
-        layer: Layer::Scheduler,
-        reason,
-    }
-}
-
 /// Whether a rule and a store go together.
 fn pair_refusal<S: Store, R: LockRule>(store: &S, rule: &R) -> Option<Refusal>
-    ensures { result ≡ pair_refusal (R.allows rule.now) S.private (held_count (S.pending store.now) (length (S.committed store.now))) }
+    ensures { result ≡ refusal_of S.Store R.LockRule store.now rule.now }
 {
     if rule.allows(Kind::Write, Kind::Write) && !S::is_private() {
         return Some(refusal(Reason::Pair));
@@ -52,7 +40,7 @@ impl<S: Store, R: LockRule> Scheduler<S, R> {
     pub fn open(store: S, rule: R) -> Scheduler<S, R>
         ensures store { result.store ≡ store }
         ensures rule { result.rule ≡ rule }
-        ensures refusal { result.refusal ≡ pair_refusal (R.allows rule) S.private (held_count (S.pending store) (length (S.committed store))) }
+        ensures refusal { result.refusal ≡ refusal_of S.Store R.LockRule store rule }
         ensures tables { ledger_of result.tables ≡ empty }
     {
         let refusal = pair_refusal(&store, &rule);
@@ -89,59 +77,37 @@ impl<S: Store, R: LockRule> Scheduler<S, R> {
     /// A read that nobody blocks.
     fn grant_read(&mut self, i: usize, t: u16, item: u16) -> Result<Reply, Refusal>
         requires at { At self.old.tables.«open».items t i }
-        requires free { blockers (R.allows self.old.rule) (ledger_of self.old.tables).locks t (AskRead item) ≡ [] }
-        ensures answer { result ≡ granted (terms S.private S.room S.share) (ledger_of self.old.tables) (S.committed self.old.store) (S.pending self.old.store) t (AskRead item) }
-        ensures step { Stepped (Some (AskRead item)) result (situation self.old.tables (S.committed self.old.store) (S.pending self.old.store)) (situation self.new.tables (S.committed self.new.store) (S.pending self.new.store)) }
-        ensures same { (self.new.rule ≡ self.old.rule) × (self.new.refusal ≡ self.old.refusal) × (S.place self.new.store ≡ S.place self.old.store) }
+        requires free { blockers_in R.LockRule self.old t (AskRead item) ≡ [] }
+        ensures answer { result ≡ granted_by S.Store self.old t (AskRead item) }
+        ensures step { Moved S.Store self.old (Some (AskRead item)) result self.new }
+        ensures same { Kept S.Store self.old self.new }
     {
-        let locked = search::holds_any(self.tables.locks.list(), t, item);
-        if self.tables.lacks_room(locked) {
-            return Err(refusal(Reason::LockListFull));
-        }
+        let missing = self.tables.missing(t, item, Kind::Read)?;
         let value = self.store.look(t, item)?;
-        self.tables.grant(
-            i,
-            Lock {
-                owner: t,
-                item,
-                kind: Kind::Read,
-            },
-            locked,
-        );
+        self.tables.grant(i, missing);
         Ok(Reply::Value { t, item, value })
     }
 
     /// A write that nobody blocks.
     fn grant_write(&mut self, i: usize, t: u16, item: u16, value: i32) -> Result<Reply, Refusal>
         requires at { At self.old.tables.«open».items t i }
-        ensures answer { result ≡ granted (terms S.private S.room S.share) (ledger_of self.old.tables) (S.committed self.old.store) (S.pending self.old.store) t (AskWrite item value) }
-        ensures step { Stepped (Some (AskWrite item value)) result (situation self.old.tables (S.committed self.old.store) (S.pending self.old.store)) (situation self.new.tables (S.committed self.new.store) (S.pending self.new.store)) }
-        ensures same { (self.new.rule ≡ self.old.rule) × (self.new.refusal ≡ self.old.refusal) × (S.place self.new.store ≡ S.place self.old.store) }
+        ensures answer { result ≡ granted_by S.Store self.old t (AskWrite item value) }
+        ensures step { Moved S.Store self.old (Some (AskWrite item value)) result self.new }
+        ensures same { Kept S.Store self.old self.new }
     {
-        let locked = search::holds(self.tables.locks.list(), t, item, Kind::Write);
-        if self.tables.lacks_room(locked) {
-            return Err(refusal(Reason::LockListFull));
-        }
+        let missing = self.tables.missing(t, item, Kind::Write)?;
         self.store.put(t, item, value)?;
-        self.tables.grant(
-            i,
-            Lock {
-                owner: t,
-                item,
-                kind: Kind::Write,
-            },
-            locked,
-        );
+        self.tables.grant(i, missing);
         Ok(Reply::Written { t, item })
     }
 
     /// What nobody blocks.
     fn grant(&mut self, i: usize, t: u16, ask: Ask) -> Result<Reply, Refusal>
         requires at { At self.old.tables.«open».items t i }
-        requires free { blockers (R.allows self.old.rule) (ledger_of self.old.tables).locks t ask ≡ [] }
-        ensures answer { result ≡ granted (terms S.private S.room S.share) (ledger_of self.old.tables) (S.committed self.old.store) (S.pending self.old.store) t ask }
-        ensures step { Stepped (Some ask) result (situation self.old.tables (S.committed self.old.store) (S.pending self.old.store)) (situation self.new.tables (S.committed self.new.store) (S.pending self.new.store)) }
-        ensures same { (self.new.rule ≡ self.old.rule) × (self.new.refusal ≡ self.old.refusal) × (S.place self.new.store ≡ S.place self.old.store) }
+        requires free { blockers_in R.LockRule self.old t ask ≡ [] }
+        ensures answer { result ≡ granted_by S.Store self.old t ask }
+        ensures step { Moved S.Store self.old (Some ask) result self.new }
+        ensures same { Kept S.Store self.old self.new }
     {
         match ask {
             Ask::Read { item } => self.grant_read(i, t, item),
@@ -157,10 +123,10 @@ impl<S: Store, R: LockRule> Scheduler<S, R> {
     /// What `blocker` and perhaps others block.
     fn block(&mut self, i: usize, t: u16, ask: Ask, blocker: u16) -> Reply
         requires at { At self.old.tables.«open».items t i }
-        requires blocker { In blocker (blockers (R.allows self.old.rule) (ledger_of self.old.tables).locks t ask) }
-        ensures answer { Blocked (R.allows self.old.rule) (ledger_of self.old.tables) t (blockers (R.allows self.old.rule) (ledger_of self.old.tables).locks t ask) (Ok result) }
-        ensures step { Stepped (Some ask) (Ok result) (situation self.old.tables (S.committed self.old.store) (S.pending self.old.store)) (situation self.new.tables (S.committed self.new.store) (S.pending self.new.store)) }
-        ensures same { (self.new.rule ≡ self.old.rule) × (self.new.refusal ≡ self.old.refusal) × (S.place self.new.store ≡ S.place self.old.store) }
+        requires blocker { In blocker (blockers_in R.LockRule self.old t ask) }
+        ensures answer { Blocked (R.allows self.old.rule) (ledger_of self.old.tables) t (blockers_in R.LockRule self.old t ask) (Ok result) }
+        ensures step { Moved S.Store self.old (Some ask) (Ok result) self.new }
+        ensures same { Kept S.Store self.old self.new }
     {
         self.tables.restate(i, State::Waiting(ask));
         if self.tables.closes_circle(&self.rule, i) {
@@ -174,9 +140,9 @@ impl<S: Store, R: LockRule> Scheduler<S, R> {
     /// Tries what the transaction asks for.
     fn attempt(&mut self, i: usize, t: u16, ask: Ask) -> Result<Reply, Refusal>
         requires at { At self.old.tables.«open».items t i }
-        ensures answer { Placed (R.allows self.old.rule) (terms S.private S.room S.share) (ledger_of self.old.tables) (S.committed self.old.store) (S.pending self.old.store) t ask (no_item (length (S.committed self.old.store)) ask) result }
-        ensures step { Stepped (Some ask) result (situation self.old.tables (S.committed self.old.store) (S.pending self.old.store)) (situation self.new.tables (S.committed self.new.store) (S.pending self.new.store)) }
-        ensures same { (self.new.rule ≡ self.old.rule) × (self.new.refusal ≡ self.old.refusal) × (S.place self.new.store ≡ S.place self.old.store) }
+        ensures answer { Tries S.Store R.LockRule self.old t ask result }
+        ensures step { Moved S.Store self.old (Some ask) result self.new }
+        ensures same { Kept S.Store self.old self.new }
     {
         if ask.exceeds(self.store.size()) {
             return Err(refusal(Reason::NoSuchItem));
@@ -189,9 +155,9 @@ impl<S: Store, R: LockRule> Scheduler<S, R> {
 
     /// A call to an open transaction, by its own state.
     fn submit(&mut self, t: u16, call: Call) -> Result<Reply, Refusal>
-        ensures answer { Done (R.allows self.old.rule) (terms S.private S.room S.share) (ledger_of self.old.tables) (S.committed self.old.store) (S.pending self.old.store) (called t call (state_of t (ledger_of self.old.tables).opens)) result }
-        ensures step { Stepped (sought call (state_of t (ledger_of self.old.tables).opens)) result (situation self.old.tables (S.committed self.old.store) (S.pending self.old.store)) (situation self.new.tables (S.committed self.new.store) (S.pending self.new.store)) }
-        ensures same { (self.new.rule ≡ self.old.rule) × (self.new.refusal ≡ self.old.refusal) × (S.place self.new.store ≡ S.place self.old.store) }
+        ensures answer { Does S.Store R.LockRule self.old (called t call (state_of t (ledger_of self.old.tables).opens)) result }
+        ensures step { Moved S.Store self.old (sought call (state_of t (ledger_of self.old.tables).opens)) result self.new }
+        ensures same { Kept S.Store self.old self.new }
     {
         let Some(i) = self.tables.find(t) else {
             return Err(refusal(Reason::NotOpen));
@@ -211,9 +177,9 @@ impl<S: Store, R: LockRule> Scheduler<S, R> {
 
     /// Opens a transaction.
     fn begin(&mut self) -> Result<Reply, Refusal>
-        ensures answer { Done (R.allows self.old.rule) (terms S.private S.room S.share) (ledger_of self.old.tables) (S.committed self.old.store) (S.pending self.old.store) (checked (ledger_of self.old.tables) Begin) result }
-        ensures step { Stepped None result (situation self.old.tables (S.committed self.old.store) (S.pending self.old.store)) (situation self.new.tables (S.committed self.new.store) (S.pending self.new.store)) }
-        ensures same { (self.new.rule ≡ self.old.rule) × (self.new.refusal ≡ self.old.refusal) × (S.place self.new.store ≡ S.place self.old.store) }
+        ensures answer { Does S.Store R.LockRule self.old (checked (ledger_of self.old.tables) Begin) result }
+        ensures step { Moved S.Store self.old None result self.new }
+        ensures same { Kept S.Store self.old self.new }
     {
         if self.transactions().len() >= OPEN {
             return Err(refusal(Reason::TooManyOpen));
@@ -228,9 +194,9 @@ impl<S: Store, R: LockRule> Scheduler<S, R> {
 
     /// Makes one call.
     pub fn call(&mut self, request: Request) -> Result<Reply, Refusal>
-        ensures answer { Answers (R.allows self.old.rule) (terms S.private S.room S.share) self.old.refusal (ledger_of self.old.tables) (S.committed self.old.store) (S.pending self.old.store) request result }
-        ensures step { Stepped (asked (ledger_of self.old.tables) request) result (situation self.old.tables (S.committed self.old.store) (S.pending self.old.store)) (situation self.new.tables (S.committed self.new.store) (S.pending self.new.store)) }
-        ensures same { (self.new.rule ≡ self.old.rule) × (self.new.refusal ≡ self.old.refusal) × (S.place self.new.store ≡ S.place self.old.store) }
+        ensures answer { Answered S.Store R.LockRule self.old request result }
+        ensures step { Called S.Store self.old request result self.new }
+        ensures same { Kept S.Store self.old self.new }
     {
         if let Some(refusal) = self.refusal {
             return Err(refusal);

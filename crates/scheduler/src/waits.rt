@@ -31,12 +31,12 @@ fn barring<R: LockRule>(rule: &R, kind: Kind, readers: Places, writers: Places) 
     ensures { (a : ℕ) → has result.bits a ≡ ((not (R.allows rule.now kind Read) && has readers.bits a) || (not (R.allows rule.now kind Write) && has writers.bits a)) }
 {
     let some = if rule.allows(kind, Kind::Read) {
-        Places::none()
+        Places::NONE
     } else {
         readers
     };
     let more = if rule.allows(kind, Kind::Write) {
-        Places::none()
+        Places::NONE
     } else {
         writers
     };
@@ -49,7 +49,7 @@ impl Tables {
         ensures { Covers self.now.locks.inner.items result.bits }
     {
         let locks = self.locks.list();
-        let mut blocks = Places::none();
+        let mut blocks = Places::NONE;
         for lock in locks {
             blocks = blocks.with(usize::from(lock.item / BLOCK));
         }
@@ -61,7 +61,7 @@ impl Tables {
         ensures { Held self.now.«open».items self.now.locks.inner.items block kind result }
     {
         let locks = self.locks.list();
-        let mut holders = [Places { bits: 0 }; 1024];
+        let mut holders = [Places::NONE; 1024];
         for lock in locks {
             if counts(*lock, kind, block) {
                 if let Some(place) = self.find(lock.owner) {
@@ -88,13 +88,13 @@ impl Tables {
         ensures { (a : ℕ) → a < 64 → has result.bits a ≡ between self.now.«open».items (asks (in_block block) (R.allows rule.now) self.now.locks.inner.items) b a }
     {
         let State::Waiting(ask) = self.state(b) else {
-            return Places::none();
+            return Places::NONE;
         };
         match ask {
             Ask::Read { item } if item / BLOCK == block => {
                 let j = usize::from(item % BLOCK);
                 if writers[j].contains(b) {
-                    return Places::none();
+                    return Places::NONE;
                 }
                 barring(rule, Kind::Read, readers[j], writers[j]).without(b)
             }
@@ -102,7 +102,7 @@ impl Tables {
                 let j = usize::from(item % BLOCK);
                 barring(rule, Kind::Write, readers[j], writers[j]).without(b)
             }
-            _ => Places::none(),
+            _ => Places::NONE,
         }
     }
 
@@ -146,7 +146,7 @@ impl Tables {
     fn wait_rows<R: LockRule>(&self, rule: &R) -> [Places; OPEN]
         ensures { Drawn (R.allows rule.now) (ledger_of self.now) result }
     {
-        let mut rows = [Places { bits: 0 }; OPEN];
+        let mut rows = [Places::NONE; OPEN];
         let blocks = self.blocks();
         for block in 0..64u16 {
             if blocks.contains(usize::from(block)) {
@@ -165,12 +165,6 @@ impl Tables {
         ensures { Decides result (Circle (R.allows rule.now) (ledger_of self.now) (slice_index_or self.now.«open».items i no_transaction).number) }
     {
         let rows = self.wait_rows(rule);
-        let leading = leading_to(&rows, i);
-        for p in 0..OPEN {
-            if leading[p] && rows[i].contains(p) {
-                return true;
-            }
-        }
-        false
+        rows[i].meets(leading_to(&rows, i))
     }
 }

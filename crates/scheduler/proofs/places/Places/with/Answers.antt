@@ -1,9 +1,6 @@
-use lib.Bits.{bit_or}
-use Rattle.std.proofs.Common.{ℕ, ap, ◌∙◌}
-use Rattle.std.proofs.lemmas.Nat.{one_shl}
-use Rattle.scheduler.specs.Bits.{has}
-use Rattle.scheduler.proofs.Bit.{has-with}
+use Rattle.std.proofs.lemmas.Nat.{le_or_l}
+use Rattle.scheduler.proofs.Bit.{has_set}
 use Rattle.scheduler.proofs.places.Places.with.Goals as goal
 
 pub returns : goal.returns
-returns c = λ p. ap (λ (n : ℕ). has (bit_or c.args.self.bits n) p) (one_shl c.args.place 64 c.requires) ∙ has-with c.args.self.bits c.args.place p
+returns c = record { value = has_set c.args.self.bits c.args.place c.requires; grows = le_or_l c.args.self.bits _ }

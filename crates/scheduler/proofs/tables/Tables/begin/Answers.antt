@@ -1,7 +1,5 @@
-use Rattle.std.proofs.Common.{◌+◌, ap, arith, length}
-use Rattle.std.proofs.lemmas.List.{length_push}
+use Rattle.std.proofs.Common.{◌+◌, arith}
 use Rattle.scheduler.specs.declared.transaction.State.TheVariants.{Active}
-use Rattle.scheduler.specs.Ledger.{transaction}
 use Rattle.scheduler.proofs.Rising.{rising-push}
 use Rattle.scheduler.proofs.tables.Tables.begin.Goals as goal
 

@@ -17,7 +17,7 @@ loop-lock-preserved c =
     let small : (get_or ls k no_lock).item / 1024 < 64 = search rules in (
       c.loop-lock.invariant.0,
       covers_more ls k c.loop-lock.blocks.bits c.with-blocks.result.bits c.loop-lock-test.true small c.loop-lock.invariant.1
-          (λ p. c.with-blocks.ensures p ∙ ap (λ (n : ℕ). has c.loop-lock.blocks.bits p || eqb n p) c.from.ensures),
+          (λ p. c.with-blocks.ensures.value p ∙ ap (λ (n : ℕ). has c.loop-lock.blocks.bits p || eqb n p) c.from.ensures),
     )
 
 pub returns : goal.returns

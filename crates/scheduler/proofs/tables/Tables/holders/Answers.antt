@@ -32,7 +32,7 @@ loop-lock-preserved c =
             length-set c.loop-lock.holders w.from-j.result w.with.result ∙ c.loop-lock.invariant.1,
             subst (λ (n : ℕ). Held os (take (k + 1) ls) c.args.block c.args.kind (set c.loop-lock.holders n w.with.result)) (sym w.from-j.ensures)
                 (held_add os T.begins T.rising ls k c.args.block c.args.kind in' c.loop-lock.holders w.in-Some.place w.with.result H (sym w.if-counts.ensures) w.in-Some.ensures lt
-                (λ a. w.with.ensures a ∙ ap (λ (n : ℕ). has (get_or c.loop-lock.holders n no_places).bits a || eqb w.in-Some.place a) w.from-j.ensures)),
+                (λ a. w.with.ensures.value a ∙ ap (λ (n : ℕ). has (get_or c.loop-lock.holders n no_places).bits a || eqb w.in-Some.place a) w.from-j.ensures)),
           )
       | then-counts+in_default w ↦ rw w.holders-is (c.loop-lock.invariant.0, c.loop-lock.invariant.1, held_gone os T.begins T.rising ls k c.args.block c.args.kind in' c.loop-lock.holders H w.in_default.ensures)
       | else-counts w ↦ rw w.holders-is (c.loop-lock.invariant.0, c.loop-lock.invariant.1, held_skip os T.begins T.rising ls k c.args.block c.args.kind in' c.loop-lock.holders H (sym w.if-counts.ensures))
