@@ -1,9 +1,7 @@
 // A scheduler is opened, and any list of calls is made.
-ghost use Rattle.std.specs.Prelude.{◌≡◌, length, IfOk};
-ghost use Rattle.store.specs.Meaning.{held_count};
-ghost use Rattle.scheduler.specs.Steps.{pair_refusal, terms};
-ghost use Rattle.scheduler.specs.Tables.{ledger_of};
-ghost use Rattle.history.specs.Ran.{Ran};
+ghost use Rattle.std.specs.Prelude.{IfOk};
+ghost use Rattle.scheduler.specs.Seen.{OpenedOver};
+ghost use Rattle.history.specs.Ran.{RanOver};
 
 use records::refusal::Refusal;
 use records::request::Request;
@@ -28,8 +26,8 @@ pub fn run<S: Store + Drop, R: LockRule + Drop>(
     rule: R,
     calls: &[Request],
 ) -> Result<Finished<S, R>, AllocError>
-    ensures ran { IfOk result (λ f. Ran (R.allows rule) (terms S.private S.room S.share) (pair_refusal (R.allows rule) S.private (held_count (S.pending store) (length (S.committed store)))) (S.committed store) (S.pending store) calls.now f.answers.items (ledger_of f.scheduler.tables) (S.committed f.scheduler.store) (S.pending f.scheduler.store)) }
-    ensures same { IfOk result (λ f. (f.scheduler.rule ≡ rule) × (f.scheduler.refusal ≡ pair_refusal (R.allows rule) S.private (held_count (S.pending store) (length (S.committed store)))) × (S.place f.scheduler.store ≡ S.place store)) }
+    ensures ran { IfOk result (λ f. RanOver S.Store R.LockRule store rule calls.now f.answers.items f.scheduler) }
+    ensures same { IfOk result (λ f. OpenedOver S.Store R.LockRule store rule f.scheduler) }
 {
     let mut answers = Vec::with_capacity(heap, calls.len())?;
     let mut scheduler = Scheduler::open(store, rule);

@@ -1,9 +1,13 @@
 -- What one step of a posting does.
 use Rattle.std.specs.Prelude.{◌≡◌, ℕ, ◌+◌, ◌*◌, ◌<◌, Some, None, Ok, Option}
 use Rattle.records.specs.declared.refusal.Refusal.{Refusal}
+use Rattle.store.specs.declared.store.Store as a_store
+use Rattle.scheduler.specs.declared.rule.LockRule as a_rule
+use Rattle.scheduler.specs.declared.scheduler.Scheduler.{Scheduler}
 use Rattle.scheduler.specs.declared.reply.Reply.TheVariants.{Committed}
 use Rattle.scheduler.specs.Blockers.{Rule}
 use Rattle.scheduler.specs.Ledger.{Answer, asked, state_of}
+use Rattle.scheduler.specs.Seen.{seen, terms_of}
 use Rattle.scheduler.specs.Stepped.{Situation, Stepped}
 use Rattle.scheduler.specs.Steps.{Answers, Terms}
 use Rattle.posting.specs.declared.posting.Cause.{Cause}
@@ -39,6 +43,10 @@ pub record Taken (ok : Rule) (k : Terms) (pair : Option Refusal) (s n : Situatio
   pub turn : r ≡ next p answer
   pub posted_only_if_committed : r ≡ Told Posted → (t : ℕ) × (number p.stage ≡ Some t) × (answer ≡ Ok (Committed t))
   pub given_up_leaves_nothing : (c : Cause) → r ≡ Told (GivenUp c) → (t : ℕ) × (number p.stage ≡ Some t) × Gone t n
+
+-- the posting p makes its call of the scheduler c, which becomes n, and comes to r
+abbrev pub TakenBy : {S R : Type 0} → a_store.Ghosts S → a_rule.Ghosts R → Scheduler S R → Scheduler S R → Posting → Turn → Type 0
+TakenBy s r c n p t = Taken (r.allows c.rule) (terms_of s) c.refusal (seen s c) (seen s n) p t
 
 -- a bound on the steps that are left
 abbrev pub left : Game → Stage → ℕ

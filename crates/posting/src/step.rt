@@ -1,8 +1,6 @@
 // One step of a posting: one call of its ticket.
-ghost use Rattle.std.specs.Prelude.{◌≡◌};
-ghost use Rattle.scheduler.specs.Situations.{situation};
-ghost use Rattle.scheduler.specs.Steps.{terms};
-ghost use Rattle.posting.specs.Taken.{Sooner, Taken};
+ghost use Rattle.scheduler.specs.Seen.{Kept};
+ghost use Rattle.posting.specs.Taken.{Sooner, TakenBy};
 
 use crate::posting::{Cause, Posting, Stage, Turn};
 use crate::reacting::after_abort;
@@ -14,8 +12,8 @@ use tickets::ticket::Active;
 impl Posting {
     /// Makes the next call, and tells what it comes to.
     pub fn step<S: Store, R: LockRule>(self, scheduler: &mut Scheduler<S, R>) -> Turn
-        ensures taken { Taken (R.allows scheduler.old.rule) (terms S.private S.room S.share) scheduler.old.refusal (situation scheduler.old.tables (S.committed scheduler.old.store) (S.pending scheduler.old.store)) (situation scheduler.new.tables (S.committed scheduler.new.store) (S.pending scheduler.new.store)) self result }
-        ensures same { (scheduler.new.rule ≡ scheduler.old.rule) × (scheduler.new.refusal ≡ scheduler.old.refusal) × (S.place scheduler.new.store ≡ S.place scheduler.old.store) }
+        ensures taken { TakenBy S.Store R.LockRule scheduler.old scheduler.new self result }
+        ensures same { Kept S.Store scheduler.old scheduler.new }
         ensures sooner { Sooner self result }
     {
         let Posting { game, stage } = self;

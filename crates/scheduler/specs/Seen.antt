@@ -54,6 +54,10 @@ Moved s c x a n = Stepped x a (seen s c) (seen s n)
 abbrev pub Called : {S R : Type 0} → a_store.Ghosts S → Scheduler S R → Request → Answer → Scheduler S R → Type 0
 Called s c q a n = Moved s c (asked (ledger_of c.tables) q) a n
 
+-- the scheduler c was opened over the store and the rule: the rule, the pair's refusal, and where the store's memory lies
+abbrev pub OpenedOver : {S R : Type 0} → a_store.Ghosts S → a_rule.Ghosts R → S → R → Scheduler S R → Type 0
+OpenedOver s r store rule c = (c.rule ≡ rule) × (c.refusal ≡ refusal_of s r store rule) × (s.place c.store ≡ s.place store)
+
 -- what no call changes: the rule, the pair's refusal, and where the store's memory lies
 abbrev pub Kept : {S R : Type 0} → a_store.Ghosts S → Scheduler S R → Scheduler S R → Type 0
 Kept s c n = (n.rule ≡ c.rule) × (n.refusal ≡ c.refusal) × (s.place n.store ≡ s.place c.store)

@@ -5,10 +5,15 @@ use Rattle.records.specs.declared.refusal.Refusal.{Refusal}
 use Rattle.records.specs.declared.request.Request.{Request}
 use Rattle.reading.specs.Held.{requests_in}
 use Rattle.reading.specs.declared.file.Placed.{Placed}
+use Rattle.store.specs.declared.store.Store as a_store
 use Rattle.store.specs.Meaning.{Writes, laid, nothing}
+use Rattle.scheduler.specs.declared.rule.LockRule as a_rule
+use Rattle.scheduler.specs.declared.scheduler.Scheduler.{Scheduler}
 use Rattle.scheduler.specs.Blockers.{Rule}
 use Rattle.scheduler.specs.Ledger.{Answer, Ledger}
+use Rattle.scheduler.specs.Seen.{refusal_of, terms_of}
 use Rattle.scheduler.specs.Steps.{Terms}
+use Rattle.scheduler.specs.Tables.{ledger_of}
 use Rattle.scheduler.specs.declared.transaction.Transaction.{Transaction}
 use Rattle.history.specs.Ran.{Ran}
 use Rattle.history.specs.Run.{Run, committed_of, ledger, pending_of, run_of}
@@ -42,6 +47,15 @@ pub record Output (ok : Rule) (k : Terms) (refusal : Option Refusal) (vs : List 
   pub shown_are_committed : ((t i : ℕ) → p t i ≡ None) → shown ≡ committed_of vs p (run_over input answers)
   -- the output is the writing of the answers, of the ending, and of the closing records
   pub written : output ≡ bytes_of (told_all (requests_in input).0 answers ++ (ended (requests_in input).1 ++ closing (nat_lt 60000 (length input)) opens shown))
+
+-- a scheduler over the store and the rule answered the input alone, and was left as c
+abbrev pub AnsweredOver : {S R : Type 0} → a_store.Ghosts S → a_rule.Ghosts R → S → R → List ℕ → List ℕ → Scheduler S R → Type 0
+AnsweredOver s r store rule input output c =
+    Answered (r.allows rule) (terms_of s) (refusal_of s r store rule) (s.committed store) (s.pending store) input output (ledger_of c.tables) (s.committed c.store) (s.pending c.store)
+
+-- what goes out where a scheduler over the store and the rule serves the input
+abbrev pub OutputOver : {S R : Type 0} → a_store.Ghosts S → a_rule.Ghosts R → S → R → List ℕ → List ℕ → Type 0
+OutputOver s r store rule = Output (r.allows rule) (terms_of s) (refusal_of s r store rule) (s.committed store) (s.pending store)
 
 -- what goes out of the server s, which starts with 1,024 zeros
 abbrev pub Outputs : Server → List ℕ → List ℕ → Type 0

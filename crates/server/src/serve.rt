@@ -1,9 +1,6 @@
 // From the bytes of an input to the bytes of the output.
-ghost use Rattle.std.specs.Prelude.{◌≡◌, length, IfOk};
-ghost use Rattle.store.specs.Meaning.{held_count};
-ghost use Rattle.scheduler.specs.Steps.{pair_refusal, terms};
-ghost use Rattle.scheduler.specs.Tables.{ledger_of};
-ghost use Rattle.server.specs.Output.{Answered, Output, requests_of};
+ghost use Rattle.std.specs.Prelude.{◌≡◌, IfOk};
+ghost use Rattle.server.specs.Output.{AnsweredOver, OutputOver, requests_of};
 
 use crate::closing::{push_open, push_values};
 use crate::output::{push_answers, push_ending};
@@ -34,7 +31,7 @@ fn answer_all<S: Store + Drop, R: LockRule + Drop>(
     rule: R,
     input: &[u8],
 ) -> Result<(Vec<u8>, Scheduler<S, R>), AllocError>
-    ensures { IfOk result (λ a. Answered (R.allows rule) (terms S.private S.room S.share) (pair_refusal (R.allows rule) S.private (held_count (S.pending store) (length (S.committed store)))) (S.committed store) (S.pending store) input.now a.0.items (ledger_of a.1.tables) (S.committed a.1.store) (S.pending a.1.store)) }
+    ensures { IfOk result (λ a. AnsweredOver S.Store R.LockRule store rule input.now a.0.items a.1) }
 {
     let (found, ending) = requests_in(heap, input)?;
     let calls = requests(heap, &found)?;
@@ -53,7 +50,7 @@ pub fn serve<S: Store + Drop, R: LockRule + Drop>(
     rule: R,
     input: &[u8],
 ) -> Result<Vec<u8>, AllocError>
-    ensures { IfOk result (λ out. Output (R.allows rule) (terms S.private S.room S.share) (pair_refusal (R.allows rule) S.private (held_count (S.pending store) (length (S.committed store)))) (S.committed store) (S.pending store) input.now out.items) }
+    ensures { IfOk result (λ out. OutputOver S.Store R.LockRule store rule input.now out.items) }
 {
     let (mut output, scheduler) = answer_all(heap, store, rule, input)?;
     if input.len() > LIMIT {

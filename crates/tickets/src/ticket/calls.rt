@@ -1,11 +1,7 @@
 // What an active ticket allows. Each call is the scheduler's call with the ticket's number.
 ghost use Rattle.std.specs.Prelude.{◌≡◌};
 ghost use Rattle.records.specs.declared.request.Request.TheVariants.{Begin, Read, Write, Commit, Abort};
-ghost use Rattle.scheduler.specs.Ledger.{asked};
-ghost use Rattle.scheduler.specs.Situations.{situation};
-ghost use Rattle.scheduler.specs.Stepped.{Stepped};
-ghost use Rattle.scheduler.specs.Steps.{Answers, terms};
-ghost use Rattle.scheduler.specs.Tables.{ledger_of};
+ghost use Rattle.scheduler.specs.Seen.{Answered, Called, Kept};
 ghost use Rattle.tickets.specs.Outcomes.{CommitNumber, ReadNumber, WriteNumber, abort_answer, begin_answer, commit_answer, read_answer, write_answer};
 
 use crate::outcome::{Committing, Reading, Writing};
@@ -20,9 +16,9 @@ use store::store::Store;
 impl Active {
     /// Opens a transaction.
     pub fn begin<S: Store, R: LockRule>(scheduler: &mut Scheduler<S, R>) -> Result<Active, Refusal>
-        ensures answer { Answers (R.allows scheduler.old.rule) (terms S.private S.room S.share) scheduler.old.refusal (ledger_of scheduler.old.tables) (S.committed scheduler.old.store) (S.pending scheduler.old.store) Begin (begin_answer result) }
-        ensures step { Stepped (asked (ledger_of scheduler.old.tables) Begin) (begin_answer result) (situation scheduler.old.tables (S.committed scheduler.old.store) (S.pending scheduler.old.store)) (situation scheduler.new.tables (S.committed scheduler.new.store) (S.pending scheduler.new.store)) }
-        ensures same { (scheduler.new.rule ≡ scheduler.old.rule) × (scheduler.new.refusal ≡ scheduler.old.refusal) × (S.place scheduler.new.store ≡ S.place scheduler.old.store) }
+        ensures answer { Answered S.Store R.LockRule scheduler.old Begin (begin_answer result) }
+        ensures step { Called S.Store scheduler.old Begin (begin_answer result) scheduler.new }
+        ensures same { Kept S.Store scheduler.old scheduler.new }
     {
         match scheduler.call(Request::Begin)? {
             Reply::Opened { t } => Ok(Active { number: t }),
@@ -32,9 +28,9 @@ impl Active {
 
     /// Reads an item.
     pub fn read<S: Store, R: LockRule>(self, scheduler: &mut Scheduler<S, R>, item: u16) -> Reading
-        ensures answer { Answers (R.allows scheduler.old.rule) (terms S.private S.room S.share) scheduler.old.refusal (ledger_of scheduler.old.tables) (S.committed scheduler.old.store) (S.pending scheduler.old.store) (Read self.number item) (read_answer self.number item result) }
-        ensures step { Stepped (asked (ledger_of scheduler.old.tables) (Read self.number item)) (read_answer self.number item result) (situation scheduler.old.tables (S.committed scheduler.old.store) (S.pending scheduler.old.store)) (situation scheduler.new.tables (S.committed scheduler.new.store) (S.pending scheduler.new.store)) }
-        ensures same { (scheduler.new.rule ≡ scheduler.old.rule) × (scheduler.new.refusal ≡ scheduler.old.refusal) × (S.place scheduler.new.store ≡ S.place scheduler.old.store) }
+        ensures answer { Answered S.Store R.LockRule scheduler.old (Read self.number item) (read_answer self.number item result) }
+        ensures step { Called S.Store scheduler.old (Read self.number item) (read_answer self.number item result) scheduler.new }
+        ensures same { Kept S.Store scheduler.old scheduler.new }
         ensures number { ReadNumber self.number result }
     {
         let Active { number } = self;
@@ -49,9 +45,9 @@ impl Active {
         item: u16,
         value: i32,
     ) -> Writing
-        ensures answer { Answers (R.allows scheduler.old.rule) (terms S.private S.room S.share) scheduler.old.refusal (ledger_of scheduler.old.tables) (S.committed scheduler.old.store) (S.pending scheduler.old.store) (Write self.number item value) (write_answer self.number item result) }
-        ensures step { Stepped (asked (ledger_of scheduler.old.tables) (Write self.number item value)) (write_answer self.number item result) (situation scheduler.old.tables (S.committed scheduler.old.store) (S.pending scheduler.old.store)) (situation scheduler.new.tables (S.committed scheduler.new.store) (S.pending scheduler.new.store)) }
-        ensures same { (scheduler.new.rule ≡ scheduler.old.rule) × (scheduler.new.refusal ≡ scheduler.old.refusal) × (S.place scheduler.new.store ≡ S.place scheduler.old.store) }
+        ensures answer { Answered S.Store R.LockRule scheduler.old (Write self.number item value) (write_answer self.number item result) }
+        ensures step { Called S.Store scheduler.old (Write self.number item value) (write_answer self.number item result) scheduler.new }
+        ensures same { Kept S.Store scheduler.old scheduler.new }
         ensures number { WriteNumber self.number result }
     {
         let Active { number } = self;
@@ -65,9 +61,9 @@ impl Active {
 
     /// Commits the transaction.
     pub fn commit<S: Store, R: LockRule>(self, scheduler: &mut Scheduler<S, R>) -> Committing
-        ensures answer { Answers (R.allows scheduler.old.rule) (terms S.private S.room S.share) scheduler.old.refusal (ledger_of scheduler.old.tables) (S.committed scheduler.old.store) (S.pending scheduler.old.store) (Commit self.number) (commit_answer self.number result) }
-        ensures step { Stepped (asked (ledger_of scheduler.old.tables) (Commit self.number)) (commit_answer self.number result) (situation scheduler.old.tables (S.committed scheduler.old.store) (S.pending scheduler.old.store)) (situation scheduler.new.tables (S.committed scheduler.new.store) (S.pending scheduler.new.store)) }
-        ensures same { (scheduler.new.rule ≡ scheduler.old.rule) × (scheduler.new.refusal ≡ scheduler.old.refusal) × (S.place scheduler.new.store ≡ S.place scheduler.old.store) }
+        ensures answer { Answered S.Store R.LockRule scheduler.old (Commit self.number) (commit_answer self.number result) }
+        ensures step { Called S.Store scheduler.old (Commit self.number) (commit_answer self.number result) scheduler.new }
+        ensures same { Kept S.Store scheduler.old scheduler.new }
         ensures number { CommitNumber self.number result }
     {
         let Active { number } = self;
@@ -80,9 +76,9 @@ impl Active {
         self,
         scheduler: &mut Scheduler<S, R>,
     ) -> Result<(), Refusal>
-        ensures answer { Answers (R.allows scheduler.old.rule) (terms S.private S.room S.share) scheduler.old.refusal (ledger_of scheduler.old.tables) (S.committed scheduler.old.store) (S.pending scheduler.old.store) (Abort self.number) (abort_answer self.number result) }
-        ensures step { Stepped (asked (ledger_of scheduler.old.tables) (Abort self.number)) (abort_answer self.number result) (situation scheduler.old.tables (S.committed scheduler.old.store) (S.pending scheduler.old.store)) (situation scheduler.new.tables (S.committed scheduler.new.store) (S.pending scheduler.new.store)) }
-        ensures same { (scheduler.new.rule ≡ scheduler.old.rule) × (scheduler.new.refusal ≡ scheduler.old.refusal) × (S.place scheduler.new.store ≡ S.place scheduler.old.store) }
+        ensures answer { Answered S.Store R.LockRule scheduler.old (Abort self.number) (abort_answer self.number result) }
+        ensures step { Called S.Store scheduler.old (Abort self.number) (abort_answer self.number result) scheduler.new }
+        ensures same { Kept S.Store scheduler.old scheduler.new }
     {
         let Active { number } = self;
         scheduler.call(Request::Abort { t: number })?;

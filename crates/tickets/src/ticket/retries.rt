@@ -1,11 +1,7 @@
 // What a waiting ticket allows. Each call is the scheduler's call with the ticket's number.
 ghost use Rattle.std.specs.Prelude.{◌≡◌};
 ghost use Rattle.records.specs.declared.request.Request.TheVariants.{Abort, Retry};
-ghost use Rattle.scheduler.specs.Ledger.{asked};
-ghost use Rattle.scheduler.specs.Situations.{situation};
-ghost use Rattle.scheduler.specs.Stepped.{Stepped};
-ghost use Rattle.scheduler.specs.Steps.{Answers, terms};
-ghost use Rattle.scheduler.specs.Tables.{ledger_of};
+ghost use Rattle.scheduler.specs.Seen.{Answered, Called, Kept};
 ghost use Rattle.tickets.specs.Outcomes.{RetryNumber, abort_answer, retry_answer};
 
 use crate::outcome::Retrying;
@@ -19,9 +15,9 @@ use store::store::Store;
 impl Waiting {
     /// Tries the request that the transaction waits with once more.
     pub fn retry<S: Store, R: LockRule>(self, scheduler: &mut Scheduler<S, R>) -> Retrying
-        ensures answer { Answers (R.allows scheduler.old.rule) (terms S.private S.room S.share) scheduler.old.refusal (ledger_of scheduler.old.tables) (S.committed scheduler.old.store) (S.pending scheduler.old.store) (Retry self.number) (retry_answer self.number result) }
-        ensures step { Stepped (asked (ledger_of scheduler.old.tables) (Retry self.number)) (retry_answer self.number result) (situation scheduler.old.tables (S.committed scheduler.old.store) (S.pending scheduler.old.store)) (situation scheduler.new.tables (S.committed scheduler.new.store) (S.pending scheduler.new.store)) }
-        ensures same { (scheduler.new.rule ≡ scheduler.old.rule) × (scheduler.new.refusal ≡ scheduler.old.refusal) × (S.place scheduler.new.store ≡ S.place scheduler.old.store) }
+        ensures answer { Answered S.Store R.LockRule scheduler.old (Retry self.number) (retry_answer self.number result) }
+        ensures step { Called S.Store scheduler.old (Retry self.number) (retry_answer self.number result) scheduler.new }
+        ensures same { Kept S.Store scheduler.old scheduler.new }
         ensures number { RetryNumber self.number result }
     {
         let Waiting { number } = self;
@@ -34,9 +30,9 @@ impl Waiting {
         self,
         scheduler: &mut Scheduler<S, R>,
     ) -> Result<(), Refusal>
-        ensures answer { Answers (R.allows scheduler.old.rule) (terms S.private S.room S.share) scheduler.old.refusal (ledger_of scheduler.old.tables) (S.committed scheduler.old.store) (S.pending scheduler.old.store) (Abort self.number) (abort_answer self.number result) }
-        ensures step { Stepped (asked (ledger_of scheduler.old.tables) (Abort self.number)) (abort_answer self.number result) (situation scheduler.old.tables (S.committed scheduler.old.store) (S.pending scheduler.old.store)) (situation scheduler.new.tables (S.committed scheduler.new.store) (S.pending scheduler.new.store)) }
-        ensures same { (scheduler.new.rule ≡ scheduler.old.rule) × (scheduler.new.refusal ≡ scheduler.old.refusal) × (S.place scheduler.new.store ≡ S.place scheduler.old.store) }
+        ensures answer { Answered S.Store R.LockRule scheduler.old (Abort self.number) (abort_answer self.number result) }
+        ensures step { Called S.Store scheduler.old (Abort self.number) (abort_answer self.number result) scheduler.new }
+        ensures same { Kept S.Store scheduler.old scheduler.new }
     {
         let Waiting { number } = self;
         Active { number }.abort(scheduler)
