@@ -18,3 +18,4 @@ pub mod Ways
 pub mod Edges
 pub mod Situations
 pub mod Seen
+pub mod Holding

@@ -2,6 +2,7 @@
 #![tactic(auto)]
 
 mod call;
+mod holders;
 pub mod items;
 pub mod lock;
 pub mod lock_list;

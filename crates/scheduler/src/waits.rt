@@ -1,30 +1,21 @@
-// The search for a chain of waits. Who waits for whom is gathered in one pass over the locks for each kind of lock and
-// one for the commits, for each block of 1,024 items that has locks, however many transactions wait.
+// The search for a chain of waits. Who waits for whom is gathered for each block of 1,024 items that has locks, in a
+// pass over the locks for each kind of lock and one for the commits, however many transactions wait.
 ghost use Rattle.std.specs.Prelude.{◌≡◌, ℕ, ◌<◌, false, length, not, ◌&&◌, ◌||◌, Decides, slice_index_or};
 ghost use Rattle.scheduler.specs.declared.lock.Kind.TheVariants.{Read, Write};
 ghost use Rattle.scheduler.specs.Orders.{no_transaction};
 ghost use Rattle.scheduler.specs.Bits.{has};
 ghost use Rattle.scheduler.specs.Circles.{Circle};
-ghost use Rattle.scheduler.specs.Edges.{Covers, Drawn, Held, More, asks, between, commits, in_block};
-ghost use Rattle.scheduler.specs.Ledger.{same_kind};
+ghost use Rattle.scheduler.specs.Edges.{Drawn, More, asks, between, commits, in_block};
+ghost use Rattle.scheduler.specs.Holding.{Holds};
 ghost use Rattle.scheduler.specs.Tables.{ledger_of};
 
-use crate::lock::{Kind, Lock};
+use crate::holders::{BLOCK, Holders, counts};
+use crate::lock::Kind;
 use crate::places::Places;
 use crate::reach::leading_to;
 use crate::rule::LockRule;
 use crate::tables::{OPEN, Tables};
 use crate::transaction::{Ask, State};
-
-/// How many neighbouring items are looked at together.
-const BLOCK: u16 = 1024;
-
-/// Whether the lock is of the kind, on an item of the block.
-fn counts(lock: Lock, kind: Kind, block: u16) -> bool
-    ensures { result ≡ (same_kind lock.kind kind && in_block block lock.item) }
-{
-    lock.kind == kind && lock.item / BLOCK == block
-}
 
 /// Of the holders of read and of write locks, those beside which the rule says no to the kind.
 fn barring<R: LockRule>(rule: &R, kind: Kind, readers: Places, writers: Places) -> Places
@@ -44,63 +35,31 @@ fn barring<R: LockRule>(rule: &R, kind: Kind, readers: Places, writers: Places) 
 }
 
 impl Tables {
-    /// The blocks in which there are locks.
-    fn blocks(&self) -> Places
-        ensures { Covers self.now.locks.inner.items result.bits }
-    {
-        let locks = self.locks.list();
-        let mut blocks = Places::NONE;
-        for lock in locks {
-            blocks = blocks.with(usize::from(lock.item / BLOCK));
-        }
-        blocks
-    }
-
-    /// For each item of the block, the places of those that hold a lock of the kind on it.
-    fn holders(&self, kind: Kind, block: u16) -> [Places; 1024]
-        ensures { Held self.now.«open».items self.now.locks.inner.items block kind result }
-    {
-        let locks = self.locks.list();
-        let mut holders = [Places::NONE; 1024];
-        for lock in locks {
-            if counts(*lock, kind, block) {
-                if let Some(place) = self.find(lock.owner) {
-                    let j = usize::from(lock.item % BLOCK);
-                    holders[j] = holders[j].with(place);
-                }
-            }
-        }
-        holders
-    }
-
     /// Whom the transaction at the place `b` waits for by what it asks for in the block.
     fn asked_in<R: LockRule>(
         &self,
         rule: &R,
-        block: u16,
+        holders: &Holders,
         b: usize,
-        readers: &[Places; 1024],
-        writers: &[Places; 1024],
     ) -> Places
         requires within { b < length self.now.«open».items }
-        requires readers { Held self.now.«open».items self.now.locks.inner.items block Read readers.now }
-        requires writers { Held self.now.«open».items self.now.locks.inner.items block Write writers.now }
-        ensures { (a : ℕ) → a < 64 → has result.bits a ≡ between self.now.«open».items (asks (in_block block) (R.allows rule.now) self.now.locks.inner.items) b a }
+        requires holders { Holds self.now.«open».items self.now.locks.inner.items holders.now }
+        ensures { (a : ℕ) → a < 64 → has result.bits a ≡ between self.now.«open».items (asks (in_block holders.now.block) (R.allows rule.now) self.now.locks.inner.items) b a }
     {
         let State::Waiting(ask) = self.state(b) else {
             return Places::NONE;
         };
         match ask {
-            Ask::Read { item } if item / BLOCK == block => {
+            Ask::Read { item } if item / BLOCK == holders.block => {
                 let j = usize::from(item % BLOCK);
-                if writers[j].contains(b) {
+                if holders.writers[j].contains(b) {
                     return Places::NONE;
                 }
-                barring(rule, Kind::Read, readers[j], writers[j]).without(b)
+                barring(rule, Kind::Read, holders.readers[j], holders.writers[j]).without(b)
             }
-            Ask::Write { item, value: _ } if item / BLOCK == block => {
+            Ask::Write { item, value: _ } if item / BLOCK == holders.block => {
                 let j = usize::from(item % BLOCK);
-                barring(rule, Kind::Write, readers[j], writers[j]).without(b)
+                barring(rule, Kind::Write, holders.readers[j], holders.writers[j]).without(b)
             }
             _ => Places::NONE,
         }
@@ -110,32 +69,29 @@ impl Tables {
     fn add_asks<R: LockRule>(
         &self,
         rule: &R,
-        block: u16,
-        readers: &[Places; 1024],
-        writers: &[Places; 1024],
+        holders: &Holders,
         rows: &mut [Places; OPEN],
     )
-        requires readers { Held self.now.«open».items self.now.locks.inner.items block Read readers.now }
-        requires writers { Held self.now.«open».items self.now.locks.inner.items block Write writers.now }
-        ensures { More self.now.«open».items (asks (in_block block) (R.allows rule.now) self.now.locks.inner.items) rows.old rows.new }
+        requires holders { Holds self.now.«open».items self.now.locks.inner.items holders.now }
+        ensures { More self.now.«open».items (asks (in_block holders.now.block) (R.allows rule.now) self.now.locks.inner.items) rows.old rows.new }
     {
         for b in 0..self.open.len() {
-            rows[b] = rows[b].union(self.asked_in(rule, block, b, readers, writers));
+            rows[b] = rows[b].union(self.asked_in(rule, holders, b));
         }
     }
 
     /// Adds whom each that waits to commit waits for by its write locks in the block. By the order of the lock list
     /// every other reader of such an item stands before that write lock.
-    fn add_commits(&self, block: u16, readers: &[Places; 1024], rows: &mut [Places; OPEN])
-        requires { Held self.now.«open».items self.now.locks.inner.items block Read readers.now }
-        ensures { More self.now.«open».items (commits (in_block block) self.now.locks.inner.items self.now.locks.inner.items) rows.old rows.new }
+    fn add_commits(&self, holders: &Holders, rows: &mut [Places; OPEN])
+        requires { Holds self.now.«open».items self.now.locks.inner.items holders.now }
+        ensures { More self.now.«open».items (commits (in_block holders.now.block) self.now.locks.inner.items self.now.locks.inner.items) rows.old rows.new }
     {
         let locks = self.locks.list();
         for lock in locks {
-            if counts(*lock, Kind::Write, block) {
+            if counts(*lock, Kind::Write, holders.block) {
                 if let Some(b) = self.find(lock.owner) {
                     if self.state(b).is_committing() {
-                        rows[b] = rows[b].union(readers[usize::from(lock.item % BLOCK)].without(b));
+                        rows[b] = rows[b].union(holders.readers[usize::from(lock.item % BLOCK)].without(b));
                     }
                 }
             }
@@ -150,10 +106,9 @@ impl Tables {
         let blocks = self.blocks();
         for block in 0..64u16 {
             if blocks.contains(usize::from(block)) {
-                let readers = self.holders(Kind::Read, block);
-                let writers = self.holders(Kind::Write, block);
-                self.add_asks(rule, block, &readers, &writers, &mut rows);
-                self.add_commits(block, &readers, &mut rows);
+                let holders = self.holders(block);
+                self.add_asks(rule, &holders, &mut rows);
+                self.add_commits(&holders, &mut rows);
             }
         }
         rows

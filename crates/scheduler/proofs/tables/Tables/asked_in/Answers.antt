@@ -15,19 +15,19 @@ returns-else-contains g c =
     let os = T.open.items in
     let ls = T.locks.inner.items in
     let ok = g.R.LockRule.allows c.args.rule.now in
-    let w = c.args.block in
+    let w = c.args.holders.now.block in
     let b = c.args.b in
     let x = c.in-Read.item in
-    let rs = c.args.readers.now in
-    let ws = c.args.writers.now in
+    let rs = c.args.holders.now.readers in
+    let ws = c.args.holders.now.writers in
     let lb : b < length os = omega (arith, c.requires.within) in
     let small : b < 64 = omega (arith, c.requires.within, T.few) in
     let none : (ltb b (length os) && holds (number_at os b) x Write ls) ≡ false =
-    sym (at-write os T.begins T.rising b lb ok ls w x Read c.if-item-block.true rs ws c.requires.readers c.requires.writers b small)
+    sym (at-write os T.begins T.rising b lb ok ls w x Read c.if-item-holders.true rs ws c.requires.holders.readers c.requires.holders.writers b small)
     ∙ ap (λ (n : ℕ). has (get_or ws n no_places).bits b) (sym c.from-j.ensures) ∙ sym c.if-contains.ensures in
     let free : holds (number_at os b) x Write ls ≡ false = ap (λ (t : Bool). t && holds (number_at os b) x Write ls) (sym (lt-ltb b (length os) lb)) ∙ none in
-    read_row os T.begins T.rising b lb ok ls w x Read c.if-item-block.true rs ws c.requires.readers c.requires.writers refl (sym c.in-Waiting.ensures ∙ ap Waiting c.in-Read.is) free c.without.result.bits
-    (bars_row os T.begins T.rising b lb ok ls w x Read c.if-item-block.true rs ws c.requires.readers c.requires.writers c.without.result.bits
+    read_row os T.begins T.rising b lb ok ls w x Read c.if-item-holders.true rs ws c.requires.holders.readers c.requires.holders.writers refl (sym c.in-Waiting.ensures ∙ ap Waiting c.in-Read.is) free c.without.result.bits
+    (bars_row os T.begins T.rising b lb ok ls w x Read c.if-item-holders.true rs ws c.requires.holders.readers c.requires.holders.writers c.without.result.bits
     (λ a. c.without.ensures a ∙ ap (λ (t : Bool). t && not (eqb b a)) (c.barring.ensures a ∙ ap (λ (n : ℕ). (not (ok Read Read) && has (get_or rs n no_places).bits a) || (not (ok Read Write) && has (get_or ws n no_places).bits a)) c.from-j.ensures)))
 
 pub returns-in-Write : goal.returns-in-Write
@@ -36,12 +36,12 @@ returns-in-Write g c =
     let os = T.open.items in
     let ls = T.locks.inner.items in
     let ok = g.R.LockRule.allows c.args.rule.now in
-    let w = c.args.block in
+    let w = c.args.holders.now.block in
     let b = c.args.b in
     let x = c.in-Write.item in
-    let rs = c.args.readers.now in
-    let ws = c.args.writers.now in
+    let rs = c.args.holders.now.readers in
+    let ws = c.args.holders.now.writers in
     let lb : b < length os = omega (arith, c.requires.within) in
-    write_row os T.begins T.rising b lb ok ls w x Write c.if-item-block-2.true rs ws c.requires.readers c.requires.writers c.in-Write.value refl (sym c.in-Waiting.ensures ∙ ap Waiting c.in-Write.is) c.without-in-Write.result.bits
-    (bars_row os T.begins T.rising b lb ok ls w x Write c.if-item-block-2.true rs ws c.requires.readers c.requires.writers c.without-in-Write.result.bits
+    write_row os T.begins T.rising b lb ok ls w x Write c.if-item-holders-2.true rs ws c.requires.holders.readers c.requires.holders.writers c.in-Write.value refl (sym c.in-Waiting.ensures ∙ ap Waiting c.in-Write.is) c.without-in-Write.result.bits
+    (bars_row os T.begins T.rising b lb ok ls w x Write c.if-item-holders-2.true rs ws c.requires.holders.readers c.requires.holders.writers c.without-in-Write.result.bits
     (λ a. c.without-in-Write.ensures a ∙ ap (λ (t : Bool). t && not (eqb b a)) (c.barring-in-Write.ensures a ∙ ap (λ (n : ℕ). (not (ok Write Read) && has (get_or rs n no_places).bits a) || (not (ok Write Write) && has (get_or ws n no_places).bits a)) c.from-j-in-Write.ensures)))

@@ -1,5 +1,6 @@
 use Rattle.std.proofs.Common.{◌≡◌, ℕ, replicate, sym, ap, ◌∙◌, subst, arith}
 use Rattle.scheduler.specs.Bits.{has}
+use Rattle.scheduler.specs.Edges.{More, asks, commits, in_block}
 use Rattle.scheduler.specs.ItemSets.{no_places}
 use Rattle.scheduler.proofs.Blockwise.{Upto, upto_add, upto_all, upto_none, upto_skip}
 use Rattle.scheduler.proofs.Gathering.{blank}
@@ -17,7 +18,11 @@ loop-block-preserved g c =
     let ls = c.args.self.now.locks.inner.items in
     let k = c.loop-block.block in
     elim c.if-contains.branch [
-      | then-contains w ↦ rw w.rows-is (upto_add ok os ls k c.loop-block.rows _ _ c.loop-block.invariant w.add_asks.ensures w.add_commits.ensures)
+      | then-contains w ↦
+          let its = w.holders-holders.ensures.block in
+          let asked : More os (asks (in_block k) ok ls) c.loop-block.rows w.add_asks.new.rows = subst (λ n. More os (asks (in_block n) ok ls) c.loop-block.rows w.add_asks.new.rows) its w.add_asks.ensures in
+          let committed : More os (commits (in_block k) ls ls) w.add_asks.new.rows w.add_commits.new.rows = subst (λ n. More os (commits (in_block n) ls ls) w.add_asks.new.rows w.add_commits.new.rows) its w.add_commits.ensures in
+          rw w.rows-is (upto_add ok os ls k c.loop-block.rows _ _ c.loop-block.invariant asked committed)
       | else-contains w ↦ rw w.rows-is (upto_skip ok os ls k c.blocks-blocks.result.bits c.loop-block.rows c.blocks-blocks.ensures
           (ap (has c.blocks-blocks.result.bits) (sym c.from.ensures) ∙ sym w.if-contains.ensures) c.loop-block.invariant)
     ]

@@ -6,8 +6,8 @@ use Rattle.scheduler.specs.Bits.{has}
 use Rattle.scheduler.specs.Edges.{Held}
 use Rattle.scheduler.specs.ItemSets.{no_places}
 use Rattle.scheduler.proofs.Gathering.{blank, held_add, held_gone, held_skip}
-use Rattle.scheduler.proofs.tables.Tables.holders.Goals as goal
-use Rattle.scheduler.proofs.tables.Tables.holders.Goals.{then-counts+in-Some, then-counts+in_default, else-counts}
+use Rattle.scheduler.proofs.tables.Tables.holding.Goals as goal
+use Rattle.scheduler.proofs.tables.Tables.holding.Goals.{then-counts+in-Some, then-counts+in_default, else-counts}
 
 nobody : (b : Bool) → false ≡ (b && false)
 nobody b = elim b as (λ x. false ≡ (x && false)) [ true ↦ refl | false ↦ refl ]

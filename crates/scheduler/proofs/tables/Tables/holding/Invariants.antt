@@ -1,6 +1,6 @@
 use Rattle.std.proofs.Common.{◌≡◌, length, take}
 use Rattle.scheduler.specs.Edges.{Held}
-use Rattle.scheduler.proofs.tables.Tables.holders.Given as goal
+use Rattle.scheduler.proofs.tables.Tables.holding.Given as goal
 
 abbrev pub invariant-loop-lock : goal.invariant-loop-lock
 invariant-loop-lock l =
