@@ -1,5 +1,5 @@
 // What came of a run, in words for a person.
-use records::refusal::{Layer, Refusal};
+use records::refusal::Refusal;
 use scheduler::reply::Reply;
 use scheduler::transaction::{Ask, State, Transaction};
 use server::told::answer_record;
@@ -16,26 +16,11 @@ pub(crate) struct Answered(pub(crate) Result<Reply, Refusal>);
 #[derive(Clone, Copy)]
 pub(crate) struct StillOpen(pub(crate) Transaction);
 
-fn name(layer: Layer) -> &'static str {
-    match layer {
-        Layer::Records => "records",
-        Layer::Scheduler => "scheduler",
-        Layer::Store => "store",
-    }
-}
-
 impl fmt::Display for Answered {
     fn fmt<W: fmt::Write>(&self, f: &mut fmt::Formatter<W>) -> fmt::Result {
         match self.0 {
-            Ok(reply) => {
-                let answer = answer_record(NOWHERE, Ok(reply));
-                write!(f, "{answer}")
-            }
-            Err(Refusal { layer, reason }) => {
-                let number = reason.number();
-                let layer = name(layer);
-                write!(f, "refused: {number} {reason} ({layer})")
-            }
+            Ok(reply) => write!(f, "{}", answer_record(NOWHERE, Ok(reply))),
+            Err(refusal) => write!(f, "refused: {refusal}"),
         }
     }
 }

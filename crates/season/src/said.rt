@@ -25,10 +25,7 @@ impl fmt::Display for Said {
             Said::Committed => f.write_str("has committed"),
             Said::Aborted => f.write_str("has aborted"),
             Said::Deadlock => f.write_str("is ended by a deadlock"),
-            Said::Refused(refusal) => {
-                let reason = refusal.reason;
-                write!(f, "refused, {reason}")
-            }
+            Said::Refused(refusal) => write!(f, "refused, {}", refusal.reason),
             Said::Nothing => f.write_str("has nothing to do"),
         }
     }
