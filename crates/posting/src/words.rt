@@ -1,8 +1,13 @@
 // Where a posting stands and what became of it, in words for a person.
+ghost use Rattle.std.specs.Prelude.{Some};
+ghost use Rattle.posting.specs.Words.{cause_text, outcome_text, posting_text};
+
 use crate::posting::{Cause, Outcome, Posting, Stage};
 use std::fmt;
 
 impl fmt::Display for Cause {
+    ghost output = { λ c. Some (cause_text c) };
+
     fn fmt<W: fmt::Write>(&self, f: &mut fmt::Formatter<W>) -> fmt::Result {
         match *self {
             Cause::Overflow => f.write_str("the new total is out of range"),
@@ -14,6 +19,8 @@ impl fmt::Display for Cause {
 }
 
 impl fmt::Display for Outcome {
+    ghost output = { λ o. Some (outcome_text o) };
+
     fn fmt<W: fmt::Write>(&self, f: &mut fmt::Formatter<W>) -> fmt::Result {
         match *self {
             Outcome::Posted => f.write_str("the game is posted"),
@@ -27,6 +34,8 @@ impl fmt::Display for Outcome {
 }
 
 impl fmt::Display for Posting {
+    ghost output = { λ p. Some (posting_text p) };
+
     fn fmt<W: fmt::Write>(&self, f: &mut fmt::Formatter<W>) -> fmt::Result {
         match &self.stage {
             Stage::Fresh => f.write_str("not begun"),

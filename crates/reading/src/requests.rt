@@ -22,6 +22,7 @@ pub fn requests_in(heap: Global, input: &[u8]) -> Result<(Vec<Placed>, Ending), 
     let mut rest = input;
     // A loop and no iterator: that would hold all of this body, and its caller the two arms again.
     while !rest.is_empty() {
+        // `as` is proved to lose nothing here, where `TryFrom` would give a `Result` to take apart.
         let place = (input.len() - rest.len()) as u32;
         match read_request(rest) {
             Ok((request, behind)) => {

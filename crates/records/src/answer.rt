@@ -21,6 +21,7 @@ pub enum Answer {
     Aborted { t: u16 },
     Wait { t: u16, blocker: u16 },
     Deadlock { t: u16 },
+    /// `layer` and `number` stay bytes, since a reader gives back any two that a record holds.
     /// `place` is the offset of the refused request's kind byte in the input.
     Refused { layer: u8, number: u8, place: u32 },
     StillOpen { t: u16, state: Activity },

@@ -58,6 +58,7 @@ pub fn write_answer(answer: Answer, out: &mut [u8]) -> Result<usize, Refusal>
     }
 }
 
+// Three forms, and not one over a list of fields: that would need a loop, and the sum of their lengths before it.
 // A kind and one number.
 fn put_one(out: &mut [u8], kind: u8, a: u16) -> Result<usize, Refusal>
     ensures { AtStart (kind ∷ bytes 2 a) out.old out.new result }

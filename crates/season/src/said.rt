@@ -1,4 +1,7 @@
 // What the desk says of its turns, in words for a person.
+ghost use Rattle.std.specs.Prelude.{Some};
+ghost use Rattle.season.specs.Words.{said_text};
+
 use records::refusal::Refusal;
 use std::fmt;
 
@@ -16,6 +19,8 @@ pub(crate) enum Said {
 }
 
 impl fmt::Display for Said {
+    ghost output = { λ s. Some (said_text s) };
+
     fn fmt<W: fmt::Write>(&self, f: &mut fmt::Formatter<W>) -> fmt::Result {
         match *self {
             Said::Opened(number) => write!(f, "transaction {number} is open"),
