@@ -1,10 +1,9 @@
 -- One request further: what the bytes hold is that request, and what the rest holds.
 use Rattle.std.proofs.Common.{◌≡◌, ℕ, zero, suc, ◌+◌, ◌-◌, ◌<◌, ◌≤◌, List, [], ◌∷◌, ◌++◌, length, drop, Ok, sym, refl, ap, ◌∙◌, arith}
-use Rattle.std.proofs.lemmas.List.{append_assoc, append-nil, drop_at, length-append}
+use Rattle.std.proofs.lemmas.List.{drop_at, length-append}
 use Rattle.records.specs.RequestRecords.{read_request, request_bytes}
 use Rattle.records.specs.declared.request.Request.{Request}
 use Rattle.records.specs.declared.request.Request.TheVariants.{Begin, Read, Write, Commit, Abort, Retry}
-use Rattle.reading.specs.declared.file.Ending.TheVariants.{Whole}
 use Rattle.reading.specs.declared.file.Placed.{Placed}
 use Rattle.reading.specs.Held.{Held, held, next}
 
