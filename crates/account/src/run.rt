@@ -21,9 +21,8 @@ fn print_answers(
     answers: &[Result<Reply, Refusal>],
 ) -> io::Result<()> {
     for (placed, answer) in found.iter().zip(answers) {
-        let answered = Answered(*answer);
         println!(rt; "{placed}")?;
-        println!(rt; "    {answered}")?;
+        println!(rt; "    {}", Answered(*answer))?;
     }
     Ok(())
 }
@@ -33,8 +32,7 @@ fn print_open<S: Store, R: LockRule>(
     scheduler: &Scheduler<S, R>,
 ) -> io::Result<()> {
     for transaction in scheduler.transactions() {
-        let open = StillOpen(*transaction);
-        println!(rt; "{open}")?;
+        println!(rt; "{}", StillOpen(*transaction))?;
     }
     Ok(())
 }
@@ -42,11 +40,10 @@ fn print_open<S: Store, R: LockRule>(
 fn print_values(rt: &impl Print, store: &impl Store) -> io::Result<()> {
     for index in 0..store.size() {
         let item = index as u16;
-        if let Ok(value) = store.look(NOBODY, item) {
-            if value != 0 {
-                let holds = Answer::Holds { item, value };
-                println!(rt; "{holds}")?;
-            }
+        if let Ok(value) = store.look(NOBODY, item)
+            && value != 0
+        {
+            println!(rt; "{}", Answer::Holds { item, value })?;
         }
     }
     Ok(())

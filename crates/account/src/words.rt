@@ -1,5 +1,8 @@
 // What came of a run, in words for a person.
-use records::refusal::{Layer, Refusal};
+ghost use Rattle.std.specs.Prelude.{Some};
+ghost use Rattle.account.specs.Words.{answered_text};
+
+use records::refusal::Refusal;
 use scheduler::reply::Reply;
 use scheduler::transaction::{Ask, State, Transaction};
 use server::told::answer_record;
@@ -16,35 +19,22 @@ pub(crate) struct Answered(pub(crate) Result<Reply, Refusal>);
 #[derive(Clone, Copy)]
 pub(crate) struct StillOpen(pub(crate) Transaction);
 
-fn name(layer: Layer) -> &'static str {
-    match layer {
-        Layer::Records => "records",
-        Layer::Scheduler => "scheduler",
-        Layer::Store => "store",
-    }
-}
-
 impl fmt::Display for Answered {
+    ghost output = { λ a. Some (answered_text a.0) };
+
     fn fmt<W: fmt::Write>(&self, f: &mut fmt::Formatter<W>) -> fmt::Result {
         match self.0 {
-            Ok(reply) => {
-                let answer = answer_record(NOWHERE, Ok(reply));
-                write!(f, "{answer}")
-            }
-            Err(Refusal { layer, reason }) => {
-                let number = reason.number();
-                let layer = name(layer);
-                write!(f, "refused: {number} {reason} ({layer})")
-            }
+            Ok(reply) => write!(f, "{}", answer_record(NOWHERE, Ok(reply))),
+            Err(refusal) => write!(f, "refused: {refusal}"),
         }
     }
 }
 
 impl fmt::Display for StillOpen {
+    // No `output` is stated: of two writes in a row, the second by cases, the check did not find the joined text.
     fn fmt<W: fmt::Write>(&self, f: &mut fmt::Formatter<W>) -> fmt::Result {
-        let Transaction { number, state } = self.0;
-        write!(f, "transaction {number} is still open: ")?;
-        match state {
+        write!(f, "transaction {} is still open: ", self.0.number)?;
+        match self.0.state {
             State::Active => f.write_str("active"),
             State::Waiting(Ask::Read { item }) => write!(f, "waiting to read item {item}"),
             State::Waiting(Ask::Write { item, value }) => write!(

@@ -4,6 +4,7 @@ use std::io;
 
 pub(crate) fn print_records(rt: &impl Print, written: &[u8]) -> io::Result<()> {
     let mut rest = written;
+    // A loop and no iterator, as in the reading of requests.
     while !rest.is_empty() {
         match read_answer(rest) {
             Ok((answer, behind)) => {
@@ -11,9 +12,11 @@ pub(crate) fn print_records(rt: &impl Print, written: &[u8]) -> io::Result<()> {
                 rest = behind;
             }
             Err(refusal) => {
-                let reason = refusal.reason;
                 let place = written.len() - rest.len();
-                return println!(rt; "{reason} at place {place}: nothing from there on is read");
+                return println!(rt;
+                    "{} at place {place}: nothing from there on is read",
+                    refusal.reason
+                );
             }
         }
     }

@@ -1,10 +1,9 @@
 -- One request further: what the bytes hold is that request, and what the rest holds.
 use Rattle.std.proofs.Common.{◌≡◌, ℕ, zero, suc, ◌+◌, ◌-◌, ◌<◌, ◌≤◌, List, [], ◌∷◌, ◌++◌, length, drop, Ok, sym, refl, ap, ◌∙◌, arith}
-use Rattle.std.proofs.lemmas.List.{append_assoc, append-nil, drop_at, length-append}
+use Rattle.std.proofs.lemmas.List.{drop_at, length-append}
 use Rattle.records.specs.RequestRecords.{read_request, request_bytes}
 use Rattle.records.specs.declared.request.Request.{Request}
 use Rattle.records.specs.declared.request.Request.TheVariants.{Begin, Read, Write, Commit, Abort, Retry}
-use Rattle.reading.specs.declared.file.Ending.TheVariants.{Whole}
 use Rattle.reading.specs.declared.file.Placed.{Placed}
 use Rattle.reading.specs.Held.{Held, held, next}
 
@@ -28,7 +27,8 @@ skipped zero p bs h = ap (λ j. held 0 j bs) (omega arith)
 skipped (suc k) p [] h = absurd (omega arith)
 skipped (suc k) p (b ∷ bs) h = skipped k (p + 1) bs (omega arith) ∙ ap (λ j. held 0 j (drop k bs)) (omega arith)
 
-held-request : (p n : ℕ) (bs rest : List ℕ) (q : Request) → read_request bs ≡ Ok (q, rest) → request_bytes q ++ rest ≡ bs → n ≡ p + (length bs - length rest)
+-- one request further
+pub held-request : (p n : ℕ) (bs rest : List ℕ) (q : Request) → read_request bs ≡ Ok (q, rest) → request_bytes q ++ rest ≡ bs → n ≡ p + (length bs - length rest)
     → held 0 p bs ≡ behind (placed p q ∷ []) (held 0 n rest)
 held-request p n [] rest q e w l = let z : ◌≡◌ {A = ℕ} 0 1 = cc in absurd (omega arith)
 held-request p n (b ∷ bs) rest q e w l =
@@ -41,17 +41,3 @@ held-request p n (b ∷ bs) rest q e w l =
     let j : p + 1 + m ≡ n = omega arith in
     let t : held m (p + 1) bs ≡ held 0 n rest = k ∙ ap (λ x. held 0 x (drop m bs)) j ∙ ap (held 0 n) d in
     ap (λ r. next p r (λ skip. held skip (p + 1) bs)) e ∙ ap (behind (placed p q ∷ [])) t
-
--- a turn of the loop
-pub one_more : (found grown : List Placed) (p n : ℕ) (bs rest : List ℕ) (q : Request) (all : Held)
-    → grown ≡ found ++ placed p q ∷ [] → read_request bs ≡ Ok (q, rest) → request_bytes q ++ rest ≡ bs → n ≡ p + (length bs - length rest)
-    → behind found (held 0 p bs) ≡ all → behind grown (held 0 n rest) ≡ all
-one_more found grown p n bs rest q all g e w l a =
-    ap (λ xs. behind xs (held 0 n rest)) g
-    ∙ ap (λ xs. (xs, (held 0 n rest).1)) (append_assoc found (placed p q ∷ []) (held 0 n rest).0)
-    ∙ ap (behind found) (sym (held-request p n bs rest q e w l)) ∙ a
-
--- the loop's end
-pub all_read : (found : List Placed) (p : ℕ) (rest : List ℕ) (all : Held) → length rest ≡ 0 → behind found (held 0 p rest) ≡ all → (found, Whole) ≡ all
-all_read found p [] all h a = ap (λ xs. (xs, Whole)) (sym (append-nil found)) ∙ a
-all_read found p (b ∷ bs) all h a = absurd (omega arith)

@@ -1,4 +1,7 @@
 // What is found in a request file.
+ghost use Rattle.std.specs.Prelude.{Some};
+ghost use Rattle.reading.specs.Words.{ending_text, placed_text};
+
 use records::refusal::{Reason, Refusal};
 use records::request::Request;
 use std::fmt;
@@ -18,14 +21,16 @@ pub enum Ending {
 }
 
 impl fmt::Display for Placed {
+    ghost output = { λ p. Some (placed_text p) };
+
     fn fmt<W: fmt::Write>(&self, f: &mut fmt::Formatter<W>) -> fmt::Result {
-        let place = self.place;
-        let request = self.request;
-        write!(f, "place {place}: {request}")
+        write!(f, "place {}: {}", self.place, self.request)
     }
 }
 
 impl fmt::Display for Ending {
+    ghost output = { λ e. Some (ending_text e) };
+
     fn fmt<W: fmt::Write>(&self, f: &mut fmt::Formatter<W>) -> fmt::Result {
         match *self {
             Ending::Whole => f.write_str("the file is whole"),

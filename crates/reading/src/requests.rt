@@ -4,7 +4,7 @@ ghost use Rattle.reading.specs.Held.{requests_in};
 
 use crate::file::{Ending, Placed};
 use records::read::read_request;
-use records::refusal::{Layer, Reason, Refusal};
+use records::refusal::{Layer, Reason};
 use std::alloc::{AllocError, Global};
 
 /// The longest file that is read, in bytes.
@@ -16,14 +16,13 @@ pub fn requests_in(heap: Global, input: &[u8]) -> Result<(Vec<Placed>, Ending), 
 {
     let mut found = Vec::new(heap);
     if input.len() > LIMIT {
-        let refusal = Refusal {
-            layer: Layer::Records,
-            reason: Reason::InputTooLong,
-        };
+        let refusal = Layer::Records.refusal(Reason::InputTooLong);
         return Ok((found, Ending::Refused { refusal, place: 0 }));
     }
     let mut rest = input;
+    // A loop and no iterator: that would hold all of this body, and its caller the two arms again.
     while !rest.is_empty() {
+        // `as` is proved to lose nothing here, where `TryFrom` would give a `Result` to take apart.
         let place = (input.len() - rest.len()) as u32;
         match read_request(rest) {
             Ok((request, behind)) => {

@@ -1,3 +1,2 @@
 mod Widths
-mod Reading
 mod Cut

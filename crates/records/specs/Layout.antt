@@ -1,5 +1,6 @@
 -- How numbers lie in bytes, when a record is whole, and what a writer leaves.
-use Rattle.std.specs.Prelude.{◌≡◌, ℕ, zero, suc, ◌+◌, ◌*◌, ◌/◌, ◌%◌, ◌^◌, ◌<◌, ◌≤◌, cond, List, [], ◌∷◌, ◌++◌, length, drop, Ok, Err, Result, nat_lt, slice_index}
+use Rattle.std.specs.Prelude.{◌≡◌, ℕ, zero, suc, ◌+◌, ◌*◌, ◌/◌, ◌%◌, ◌^◌, ◌<◌, ◌≤◌, cond, List, [], ◌∷◌, ◌++◌, length, drop, IfOk, Ok, Err, Result, MatchResult, nat_lt, slice_index}
+use denote.Ref.{Bor}
 use Rattle.records.specs.declared.refusal.Layer.TheVariants.{Records}
 use Rattle.records.specs.declared.refusal.Reason.TheVariants.{UnknownKind, BodyCutShort, OutputTooShort}
 use Rattle.records.specs.declared.refusal.Refusal.{Refusal}
@@ -30,6 +31,14 @@ Reading R = Result (R × List ℕ) Refusal
 -- a record of n bytes, kind included, at the start of bs
 abbrev pub whole : {R : Type 0} → ℕ → R → List ℕ → Reading R
 whole n q bs = cond (nat_lt (length bs) n) (Err cut_short) (Ok (q, drop n bs))
+
+-- a reader's answer is what the layout says: the record and the rest of the input, or the refusal
+abbrev pub Reads : {R : Type 0} → Reading R → Result (R × Bor (List ℕ)) Refusal → Type 0
+Reads said given = MatchResult given (λ p. said ≡ Ok (p.0, p.1.now)) (λ e. said ≡ Err e)
+
+-- the bytes of the record that is read, and then the rest, are the input
+abbrev pub WritesBack : {R : Type 0} → (R → List ℕ) → List ℕ → Result (R × Bor (List ℕ)) Refusal → Type 0
+WritesBack bytes_of input given = IfOk given (λ p. bytes_of p.0 ++ p.1.now ≡ input)
 
 -- a writer's answer, and the buffer before and after: the record's bytes, then what stood there, or nothing changed
 abbrev pub AtStart : List ℕ → List ℕ → List ℕ → Result ℕ Refusal → Type 0

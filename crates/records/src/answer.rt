@@ -1,11 +1,14 @@
 // What the scheduler answers, and what it tells at the end of a file.
+ghost use Rattle.std.specs.Prelude.{Some};
+ghost use Rattle.records.specs.Words.{activity_name, answer_text};
+
 use std::fmt;
 
-/// Whether an open transaction may go on, or waits with a held request.
+/// Whether an open transaction may go on, or waits with a held request, with its byte in a record.
 #[derive(Clone, Copy, PartialEq, Eq, Debug)]
 pub enum Activity {
-    Active,
-    Waiting,
+    Active = 0,
+    Waiting = 1,
 }
 
 /// An answer: `t` is the number of a transaction.
@@ -18,6 +21,7 @@ pub enum Answer {
     Aborted { t: u16 },
     Wait { t: u16, blocker: u16 },
     Deadlock { t: u16 },
+    /// `layer` and `number` stay bytes, since a reader gives back any two that a record holds.
     /// `place` is the offset of the refused request's kind byte in the input.
     Refused { layer: u8, number: u8, place: u32 },
     StillOpen { t: u16, state: Activity },
@@ -25,15 +29,19 @@ pub enum Answer {
 }
 
 impl fmt::Display for Activity {
+    ghost output = { λ a. Some (activity_name a) };
+
     fn fmt<W: fmt::Write>(&self, f: &mut fmt::Formatter<W>) -> fmt::Result {
-        match *self {
-            Activity::Active => f.write_str("active"),
-            Activity::Waiting => f.write_str("waiting"),
-        }
+        f.write_str(match self {
+            Activity::Active => "active",
+            Activity::Waiting => "waiting",
+        })
     }
 }
 
 impl fmt::Display for Answer {
+    ghost output = { λ a. Some (answer_text a) };
+
     fn fmt<W: fmt::Write>(&self, f: &mut fmt::Formatter<W>) -> fmt::Result {
         match *self {
             Answer::Opened { t } => write!(f, "transaction {t} is open"),

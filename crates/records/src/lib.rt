@@ -2,7 +2,6 @@
 #![tactic(auto)]
 
 pub mod answer;
-mod number;
 pub mod read;
 pub mod refusal;
 pub mod request;

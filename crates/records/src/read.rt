@@ -1,13 +1,14 @@
 // The readers of requests and answers.
-ghost use Rattle.std.specs.Prelude.{◌≡◌, ◌≤◌, ◌∷◌, ◌++◌, length, drop, IfOk, Ok, Err, MatchResult, slice_index};
-ghost use Rattle.records.specs.AnswerRecords.{read_answer, answer_bytes, body_length, state_of};
+ghost use Rattle.std.specs.Prelude.{◌≡◌, ◌+◌, ◌*◌, ◌≤◌, ◌∷◌, ◌++◌, length, drop, Ok, slice_index};
+ghost use Rattle.records.specs.AnswerRecords.{read_answer, answer_bytes, body_length};
+ghost use Rattle.records.specs.Layout.{Reads, WritesBack};
 ghost use Rattle.records.specs.RequestRecords.{read_request, request_bytes};
 
 use crate::answer::{Activity, Answer};
-use crate::number::{four, pair, two};
 use crate::refusal::{Layer, Reason, Refusal};
 use crate::request::Request;
 
+// A constant's value can call no function, so both are written out.
 const UNKNOWN_KIND: Refusal = Refusal {
     layer: Layer::Records,
     reason: Reason::UnknownKind,
@@ -18,10 +19,17 @@ const CUT_SHORT: Refusal = Refusal {
     reason: Reason::BodyCutShort,
 };
 
+// A number of two bytes.
+fn pair(high: u8, low: u8) -> u16
+    ensures { result ≡ high * 256 + low }
+{
+    u16::from_be_bytes([high, low])
+}
+
 /// The request at the start of `input`, and the rest of the input.
 pub fn read_request(input: &[u8]) -> Result<(Request, &[u8]), Refusal>
-    ensures reads { MatchResult result (λ p. read_request input.now ≡ Ok (p.0, p.1.now)) (λ e. read_request input.now ≡ Err e) }
-    ensures writes_back { IfOk result (λ p. request_bytes p.0 ++ p.1.now ≡ input.now) }
+    ensures reads { Reads (read_request input.now) result }
+    ensures writes_back { WritesBack request_bytes input.now result }
 {
     match input {
         [1, rest @ ..] => Ok((Request::Begin, rest)),
@@ -46,8 +54,8 @@ pub fn read_request(input: &[u8]) -> Result<(Request, &[u8]), Refusal>
 
 /// The answer at the start of `input`, and the rest of the input.
 pub fn read_answer(input: &[u8]) -> Result<(Answer, &[u8]), Refusal>
-    ensures reads { MatchResult result (λ p. read_answer input.now ≡ Ok (p.0, p.1.now)) (λ e. read_answer input.now ≡ Err e) }
-    ensures writes_back { IfOk result (λ p. answer_bytes p.0 ++ p.1.now ≡ input.now) }
+    ensures reads { Reads (read_answer input.now) result }
+    ensures writes_back { WritesBack answer_bytes input.now result }
 {
     match input {
         [] => Err(CUT_SHORT),
@@ -56,8 +64,8 @@ pub fn read_answer(input: &[u8]) -> Result<(Answer, &[u8]), Refusal>
 }
 
 fn read_body(kind: u8, body: &[u8]) -> Result<(Answer, &[u8]), Refusal>
-    ensures reads { MatchResult result (λ p. read_answer (kind ∷ body.now) ≡ Ok (p.0, p.1.now)) (λ e. read_answer (kind ∷ body.now) ≡ Err e) }
-    ensures writes_back { IfOk result (λ p. answer_bytes p.0 ++ p.1.now ≡ kind ∷ body.now) }
+    ensures reads { Reads (read_answer (kind ∷ body.now)) result }
+    ensures writes_back { WritesBack answer_bytes (kind ∷ body.now) result }
 {
     let size = body_length(kind);
     match kind {
@@ -76,54 +84,42 @@ fn answer_of(kind: u8, body: &[u8]) -> Answer
     ensures reads { read_answer (kind ∷ body.now) ≡ Ok (result, drop (body_length kind) body.now) }
     ensures writes_back { answer_bytes result ++ drop (body_length kind) body.now ≡ kind ∷ body.now }
 {
-    match kind {
-        17 => Answer::Opened { t: two(body, 0) },
-        18 => {
-            let t = two(body, 0);
-            let item = two(body, 2);
-            let value = four(body, 4).cast_signed();
-            Answer::Value { t, item, value }
-        }
-        19 => {
-            let t = two(body, 0);
-            let item = two(body, 2);
-            Answer::Written { t, item }
-        }
-        20 => Answer::Committed { t: two(body, 0) },
-        21 => Answer::Aborted { t: two(body, 0) },
-        22 => {
-            let t = two(body, 0);
-            let blocker = two(body, 2);
-            Answer::Wait { t, blocker }
-        }
-        23 => Answer::Deadlock { t: two(body, 0) },
-        24 => {
-            let place = four(body, 2);
-            Answer::Refused {
-                layer: body[0],
-                number: body[1],
-                place,
-            }
-        }
-        25 => {
-            let t = two(body, 0);
-            let state = state_of(body[2]);
-            Answer::StillOpen { t, state }
-        }
-        _ => {
-            let item = two(body, 0);
-            let value = four(body, 2).cast_signed();
-            Answer::Holds { item, value }
-        }
-    }
-}
-
-fn state_of(byte: u8) -> Activity
-    ensures { result ≡ state_of byte }
-{
-    match byte {
-        0 => Activity::Active,
-        _ => Activity::Waiting,
+    match (kind, body) {
+        (17, &[t1, t0, ..]) => Answer::Opened { t: pair(t1, t0) },
+        (18, &[t1, t0, i1, i0, v3, v2, v1, v0, ..]) => Answer::Value {
+            t: pair(t1, t0),
+            item: pair(i1, i0),
+            value: i32::from_be_bytes([v3, v2, v1, v0]),
+        },
+        (19, &[t1, t0, i1, i0, ..]) => Answer::Written {
+            t: pair(t1, t0),
+            item: pair(i1, i0),
+        },
+        (20, &[t1, t0, ..]) => Answer::Committed { t: pair(t1, t0) },
+        (21, &[t1, t0, ..]) => Answer::Aborted { t: pair(t1, t0) },
+        (22, &[t1, t0, b1, b0, ..]) => Answer::Wait {
+            t: pair(t1, t0),
+            blocker: pair(b1, b0),
+        },
+        (23, &[t1, t0, ..]) => Answer::Deadlock { t: pair(t1, t0) },
+        (24, &[layer, number, p3, p2, p1, p0, ..]) => Answer::Refused {
+            layer,
+            number,
+            place: u32::from_be_bytes([p3, p2, p1, p0]),
+        },
+        (25, &[t1, t0, 0, ..]) => Answer::StillOpen {
+            t: pair(t1, t0),
+            state: Activity::Active,
+        },
+        (25, &[t1, t0, 1, ..]) => Answer::StillOpen {
+            t: pair(t1, t0),
+            state: Activity::Waiting,
+        },
+        (26, &[i1, i0, v3, v2, v1, v0, ..]) => Answer::Holds {
+            item: pair(i1, i0),
+            value: i32::from_be_bytes([v3, v2, v1, v0]),
+        },
+        _ => unreachable!(),
     }
 }
 

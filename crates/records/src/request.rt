@@ -1,4 +1,7 @@
 // What a centre asks of the scheduler.
+ghost use Rattle.std.specs.Prelude.{Some};
+ghost use Rattle.records.specs.Words.{request_text};
+
 use std::fmt;
 
 /// A request: `t` is the number of a transaction.
@@ -13,6 +16,8 @@ pub enum Request {
 }
 
 impl fmt::Display for Request {
+    ghost output = { λ r. Some (request_text r) };
+
     fn fmt<W: fmt::Write>(&self, f: &mut fmt::Formatter<W>) -> fmt::Result {
         match *self {
             Request::Begin => f.write_str("a transaction begins"),

@@ -3,10 +3,10 @@ ghost use Rattle.std.specs.Prelude.{◌≡◌, ℕ, List, ◌∷◌, ◌++◌, O
 ghost use Rattle.std.specs.Int.{w32};
 ghost use Rattle.std.proofs.Common.{of_z};
 ghost use Rattle.records.specs.Layout.{bytes, AtStart};
-ghost use Rattle.records.specs.AnswerRecords.{answer_bytes, read_answer, state_byte};
+ghost use Rattle.records.specs.AnswerRecords.{answer_bytes, read_answer};
 ghost use Rattle.records.specs.RequestRecords.{request_bytes, read_request};
 
-use crate::answer::{Activity, Answer};
+use crate::answer::Answer;
 use crate::refusal::{Layer, Reason, Refusal};
 use crate::request::Request;
 
@@ -48,7 +48,7 @@ pub fn write_answer(answer: Answer, out: &mut [u8]) -> Result<usize, Refusal>
         }
         Answer::StillOpen { t, state } => {
             let [t1, t0] = t.to_be_bytes();
-            put(out, &[25, t1, t0, state_byte(state)])
+            put(out, &[25, t1, t0, state as u8])
         }
         Answer::Holds { item, value } => {
             let [i1, i0] = item.to_be_bytes();
@@ -58,15 +58,7 @@ pub fn write_answer(answer: Answer, out: &mut [u8]) -> Result<usize, Refusal>
     }
 }
 
-fn state_byte(state: Activity) -> u8
-    ensures { result ≡ state_byte state }
-{
-    match state {
-        Activity::Active => 0,
-        Activity::Waiting => 1,
-    }
-}
-
+// Three forms, and not one over a list of fields: that would need a loop, and the sum of their lengths before it.
 // A kind and one number.
 fn put_one(out: &mut [u8], kind: u8, a: u16) -> Result<usize, Refusal>
     ensures { AtStart (kind ∷ bytes 2 a) out.old out.new result }
@@ -99,10 +91,7 @@ fn put(out: &mut [u8], from: &[u8]) -> Result<usize, Refusal>
 {
     let n = from.len();
     if out.len() < n {
-        return Err(Refusal {
-            layer: Layer::Records,
-            reason: Reason::OutputTooShort,
-        });
+        return Err(Layer::Records.refusal(Reason::OutputTooShort));
     }
     out[..n].copy_from_slice(from);
     Ok(n)

@@ -1,4 +1,7 @@
 // What the desk says of its turns, in words for a person.
+ghost use Rattle.std.specs.Prelude.{Some};
+ghost use Rattle.season.specs.Words.{said_text};
+
 use records::refusal::Refusal;
 use std::fmt;
 
@@ -16,6 +19,8 @@ pub(crate) enum Said {
 }
 
 impl fmt::Display for Said {
+    ghost output = { λ s. Some (said_text s) };
+
     fn fmt<W: fmt::Write>(&self, f: &mut fmt::Formatter<W>) -> fmt::Result {
         match *self {
             Said::Opened(number) => write!(f, "transaction {number} is open"),
@@ -25,10 +30,7 @@ impl fmt::Display for Said {
             Said::Committed => f.write_str("has committed"),
             Said::Aborted => f.write_str("has aborted"),
             Said::Deadlock => f.write_str("is ended by a deadlock"),
-            Said::Refused(refusal) => {
-                let reason = refusal.reason;
-                write!(f, "refused, {reason}")
-            }
+            Said::Refused(refusal) => write!(f, "refused, {}", refusal.reason),
             Said::Nothing => f.write_str("has nothing to do"),
         }
     }

@@ -32,6 +32,7 @@ pub(crate) fn open_record(transaction: Transaction) -> Answer
     ensures { result ≡ still_open transaction }
 {
     let Transaction { number, state } = transaction;
+    // Both types are other crates', so this is no `From`.
     let state = match state {
         State::Active => Activity::Active,
         State::Waiting(_) => Activity::Waiting,
