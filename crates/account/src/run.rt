@@ -8,12 +8,10 @@ use records::refusal::Refusal;
 use scheduler::reply::Reply;
 use scheduler::rule::LockRule;
 use scheduler::scheduler::Scheduler;
+use scheduler::transaction::NOBODY;
 use server::serve::requests;
 use std::io;
 use store::store::Store;
-
-/// No transaction has this number, so it sees the committed values.
-const NOBODY: u16 = 0;
 
 fn print_answers(
     rt: &impl Print,

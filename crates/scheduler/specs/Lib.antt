@@ -19,3 +19,4 @@ pub mod Edges
 pub mod Situations
 pub mod Seen
 pub mod Holding
+pub mod Recorded

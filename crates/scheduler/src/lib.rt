@@ -9,7 +9,6 @@ pub mod lock_list;
 mod opening;
 pub mod places;
 mod reach;
-mod refusal;
 pub mod reply;
 pub mod rule;
 pub mod scheduler;

@@ -12,13 +12,12 @@ ghost use Rattle.scheduler.specs.Tables.{ledger_of};
 
 use crate::lock::{Kind, Lock};
 use crate::lock_list::LockList;
-use crate::refusal::refusal;
 use crate::rule::LockRule;
 use crate::search;
 use crate::tables::Tables;
 use crate::transaction::{Ask, State, Transaction};
 use arrayvec::ArrayVec;
-use records::refusal::{Reason, Refusal};
+use records::refusal::{Layer, Reason, Refusal};
 
 impl Tables {
     pub(crate) fn new() -> Tables
@@ -96,7 +95,7 @@ impl Tables {
     {
         let missing = search::missing(self.locks.list(), t, item, kind);
         if missing.is_some() && self.locks.is_full() {
-            return Err(refusal(Reason::LockListFull));
+            return Err(Layer::Scheduler.refusal(Reason::LockListFull));
         }
         Ok(missing)
     }

@@ -13,12 +13,11 @@ ghost use Rattle.scheduler.specs.Seen.{Answered, Called, Does, Kept, Moved, Trie
 use crate::call::Call;
 use crate::lock::Kind;
 use crate::reply::Reply;
-use crate::refusal::refusal;
 use crate::rule::LockRule;
 use crate::scheduler::Scheduler;
 use crate::tables::{BEGINS, OPEN, Tables};
 use crate::transaction::{Ask, State, Transaction};
-use records::refusal::{Reason, Refusal};
+use records::refusal::{Layer, Reason, Refusal};
 use records::request::Request;
 use store::store::Store;
 
@@ -27,10 +26,10 @@ fn pair_refusal<S: Store, R: LockRule>(store: &S, rule: &R) -> Option<Refusal>
     ensures { result ≡ refusal_of S.Store R.LockRule store.now rule.now }
 {
     if rule.allows(Kind::Write, Kind::Write) && !S::is_private() {
-        return Some(refusal(Reason::Pair));
+        return Some(Layer::Scheduler.refusal(Reason::Pair));
     }
     if store.held() != 0 {
-        return Some(refusal(Reason::PendingAtOpening));
+        return Some(Layer::Scheduler.refusal(Reason::PendingAtOpening));
     }
     None
 }
@@ -145,7 +144,7 @@ impl<S: Store, R: LockRule> Scheduler<S, R> {
         ensures same { Kept S.Store self.old self.new }
     {
         if ask.exceeds(self.store.size()) {
-            return Err(refusal(Reason::NoSuchItem));
+            return Err(Layer::Scheduler.refusal(Reason::NoSuchItem));
         }
         match self.tables.blocker(&self.rule, t, ask) {
             None => self.grant(i, t, ask),
@@ -160,13 +159,13 @@ impl<S: Store, R: LockRule> Scheduler<S, R> {
         ensures same { Kept S.Store self.old self.new }
     {
         let Some(i) = self.tables.find(t) else {
-            return Err(refusal(Reason::NotOpen));
+            return Err(Layer::Scheduler.refusal(Reason::NotOpen));
         };
         match (self.tables.state(i), call) {
             (State::Active, Call::Try(ask)) => self.attempt(i, t, ask),
             (State::Waiting(ask), Call::Retry) => self.attempt(i, t, ask),
-            (State::Waiting(_), Call::Try(_)) => Err(refusal(Reason::Waiting)),
-            (State::Active, Call::Retry) => Err(refusal(Reason::NotWaiting)),
+            (State::Waiting(_), Call::Try(_)) => Err(Layer::Scheduler.refusal(Reason::Waiting)),
+            (State::Active, Call::Retry) => Err(Layer::Scheduler.refusal(Reason::NotWaiting)),
             (_, Call::Abort) => {
                 self.store.discard(t);
                 self.tables.close(t);
@@ -182,10 +181,10 @@ impl<S: Store, R: LockRule> Scheduler<S, R> {
         ensures same { Kept S.Store self.old self.new }
     {
         if self.transactions().len() >= OPEN {
-            return Err(refusal(Reason::TooManyOpen));
+            return Err(Layer::Scheduler.refusal(Reason::TooManyOpen));
         }
         if self.tables.begins >= BEGINS {
-            return Err(refusal(Reason::NumbersSpent));
+            return Err(Layer::Scheduler.refusal(Reason::NumbersSpent));
         }
         Ok(Reply::Opened {
             t: self.tables.begin(),

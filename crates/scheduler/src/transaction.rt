@@ -3,6 +3,8 @@ ghost use Rattle.std.specs.Prelude.{◌≡◌};
 ghost use Rattle.scheduler.specs.Edges.{committing};
 ghost use Rattle.scheduler.specs.Steps.{no_item};
 
+use records::answer::{Activity, Answer};
+
 /// What a transaction asks for, and holds while it waits.
 #[derive(Clone, Copy, PartialEq, Eq, Debug)]
 pub enum Ask {
@@ -35,17 +37,43 @@ impl State {
     pub(crate) fn is_committing(self) -> bool
         ensures { result ≡ committing self }
     {
-        match self {
-            State::Waiting(Ask::Commit) => true,
-            State::Active
-            | State::Waiting(Ask::Read { item: _ })
-            | State::Waiting(Ask::Write { item: _, value: _ }) => false,
+        matches!(self, State::Waiting(Ask::Commit))
+    }
+}
+
+impl From<State> for Activity {
+    ghost use Rattle.scheduler.specs.Recorded.{activity};
+
+    ghost from_gives = { λ s a. a ≡ activity s };
+
+    fn from(state: State) -> Activity {
+        match state {
+            State::Active => Activity::Active,
+            State::Waiting(_) => Activity::Waiting,
         }
     }
 }
+
+/// The number of no transaction. It has no pending writes, so it sees the committed values.
+pub const NOBODY: u16 = 0;
 
 #[derive(Clone, Copy, PartialEq, Eq, Debug, Default)]
 pub struct Transaction {
     pub number: u16,
     pub state: State,
+}
+
+/// The record of a transaction that is open at the end.
+impl From<Transaction> for Answer {
+    ghost use Rattle.scheduler.specs.Recorded.{still_open};
+
+    ghost from_gives = { λ o a. a ≡ still_open o };
+
+    fn from(transaction: Transaction) -> Answer {
+        let Transaction { number, state } = transaction;
+        Answer::StillOpen {
+            t: number,
+            state: state.into(),
+        }
+    }
 }

@@ -19,7 +19,8 @@ use Rattle.scheduler.specs.Steps.{Terms}
 use Rattle.history.specs.Ran.{Ran}
 use Rattle.history.specs.Run.{committed_of, ledger, pending_of}
 use Rattle.server.specs.Output.{Answered, Output, requests_of, run_over}
-use Rattle.server.specs.Told.{bytes_of, closing, ended, holding, still_open, told_all}
+use Rattle.scheduler.specs.Recorded.{still_open}
+use Rattle.server.specs.Told.{bytes_of, closing, ended, holding, told_all}
 use Rattle.server.proofs.Growing.{bytes_append}
 use Rattle.server.proofs.Nobody.{nobody}
 

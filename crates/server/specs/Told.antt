@@ -3,28 +3,18 @@ use Rattle.std.specs.Prelude.{ℕ, zero, suc, ◌+◌, Bool, true, false, cond, 
 use Rattle.std.specs.List.{zip}
 use Rattle.records.specs.AnswerRecords.{answer_bytes}
 use Rattle.records.specs.Refusals.{layer_number, reason_number}
-use Rattle.records.specs.declared.answer.Activity.{Activity}
-use Rattle.records.specs.declared.answer.Activity.TheVariants.{Active as is_active, Waiting as is_waiting}
 use Rattle.records.specs.declared.answer.Answer.{Answer as Record}
-use Rattle.records.specs.declared.answer.Answer.TheVariants.{Opened as opened, Value as value, Written as written, Committed as committed, Aborted as aborted, Wait as wait, Deadlock as deadlock, Refused as refused, StillOpen, Holds}
+use Rattle.records.specs.declared.answer.Answer.TheVariants.{Refused as refused, Holds}
 use Rattle.reading.specs.declared.file.Ending.{Ending}
 use Rattle.reading.specs.declared.file.Ending.TheVariants.{Whole, Refused}
 use Rattle.reading.specs.declared.file.Placed.{Placed}
 use Rattle.scheduler.specs.Ledger.{Answer}
-use Rattle.scheduler.specs.declared.reply.Reply.TheVariants.{Opened, Value, Written, Committed, Aborted, Wait, Deadlock}
-use Rattle.scheduler.specs.declared.transaction.State.{State}
-use Rattle.scheduler.specs.declared.transaction.State.TheVariants.{Active, Waiting}
+use Rattle.scheduler.specs.Recorded.{recorded, still_open}
 use Rattle.scheduler.specs.declared.transaction.Transaction.{Transaction}
 
 -- the record of the answer to the request at a place
 abbrev pub told : ℕ → Answer → Record
-told place (Ok (Opened t)) = opened t
-told place (Ok (Value t i v)) = value t i v
-told place (Ok (Written t i)) = written t i
-told place (Ok (Committed t)) = committed t
-told place (Ok (Aborted t)) = aborted t
-told place (Ok (Wait t b)) = wait t b
-told place (Ok (Deadlock t)) = deadlock t
+told place (Ok r) = recorded r
 told place (Err e) = refused (layer_number e.layer) (reason_number e.reason) place
 
 -- each answer at the place of its request
@@ -35,13 +25,6 @@ told_all qs as' = map (λ (p : Placed × Answer). told p.0.place p.1) (zip qs as
 abbrev pub ended : Ending → List Record
 ended Whole = []
 ended (Refused e place) = told place (Err e) ∷ []
-
-abbrev pub activity : State → Activity
-activity Active = is_active
-activity (Waiting a) = is_waiting
-
-abbrev pub still_open : Transaction → Record
-still_open o = StillOpen o.number (activity o.state)
 
 abbrev pub is_zero : ℤ → Bool
 is_zero (pos zero) = true

@@ -1,23 +1,20 @@
 // The closing records: the open transactions, and the values.
 ghost use Rattle.std.specs.Prelude.{◌≡◌, ◌++◌, map, OnOk};
 ghost use Rattle.store.specs.Meaning.{laid};
-ghost use Rattle.server.specs.Told.{bytes_of, held, holding, still_open};
+ghost use Rattle.scheduler.specs.Recorded.{still_open};
+ghost use Rattle.server.specs.Told.{bytes_of, held, holding};
 
 use crate::output::push_record;
-use crate::told::open_record;
 use records::answer::Answer;
-use scheduler::transaction::Transaction;
+use scheduler::transaction::{NOBODY, Transaction};
 use std::alloc::AllocError;
 use store::store::Store;
-
-/// No transaction has this number, so it sees the committed values.
-const NOBODY: u16 = 0;
 
 pub(crate) fn push_open(out: &mut Vec<u8>, transactions: &[Transaction]) -> Result<(), AllocError>
     ensures { OnOk result (out.new.items ≡ out.old.items ++ bytes_of (map still_open transactions.now)) }
 {
     for transaction in transactions {
-        push_record(out, open_record(*transaction))?;
+        push_record(out, Answer::from(*transaction))?;
     }
     Ok(())
 }

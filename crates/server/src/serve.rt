@@ -17,11 +17,7 @@ use store::store::Store;
 pub fn requests(heap: Global, found: &[Placed]) -> Result<Vec<Request>, AllocError>
     ensures { IfOk result (λ v. v.items ≡ requests_of found.now) }
 {
-    let mut requests = Vec::new(heap);
-    for placed in found {
-        requests.push(placed.request)?;
-    }
-    Ok(requests)
+    found.iter().map(|placed| placed.request).collect(heap)
 }
 
 // The requests that the input holds, made of a scheduler, and the writing of the answers.

@@ -1,5 +1,6 @@
 use Rattle.std.proofs.Common.{◌≡◌, ◌++◌, map, drop, vec_items}
-use Rattle.server.specs.Told.{bytes_of, still_open}
+use Rattle.server.specs.Told.{bytes_of}
+use Rattle.scheduler.specs.Recorded.{still_open}
 use Rattle.server.proofs.closing.push_open.Given as goal
 
 abbrev pub invariant-loop-transaction : goal.invariant-loop-transaction

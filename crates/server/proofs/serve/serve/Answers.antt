@@ -1,6 +1,7 @@
 use Rattle.std.proofs.Common.{◌++◌, map, vec_items, ap, ◌∙◌}
 use Rattle.store.specs.Meaning.{laid}
-use Rattle.server.specs.Told.{bytes_of, holding, still_open}
+use Rattle.server.specs.Told.{bytes_of, holding}
+use Rattle.scheduler.specs.Recorded.{still_open}
 use Rattle.server.proofs.Serving.{both_closing, none-closing}
 use Rattle.server.proofs.serve.serve.Goals as goal
 
