@@ -145,10 +145,7 @@ fn plays<S: Store + Drop, R: LockRule + Drop>(
     play: &[(Request, Result<Reply, Refusal>)],
     left: i32,
 ) -> Result<(), Fail> {
-    let mut calls = Vec::new(heap);
-    for (call, _) in play {
-        calls.push(*call)?;
-    }
+    let calls: Vec<Request> = play.iter().map(|(call, _)| *call).collect(heap)?;
     let Finished { answers, scheduler } = run(heap, store, rule, &calls)?;
     assert_eq!(rt; answers.len(), play.len());
     for ((_, expected), answer) in play.iter().zip(&answers) {
@@ -158,66 +155,40 @@ fn plays<S: Store + Drop, R: LockRule + Drop>(
     Ok(())
 }
 
+fn plays_in_place(
+    rt: &(impl Abort + AllocGlobal),
+    play: &[(Request, Result<Reply, Refusal>)],
+    left: i32,
+) -> Result<i32, Fail> {
+    let mut values = [0; 1024];
+    let store = InPlace::open(&mut values);
+    plays(rt, rt.alloc(), store, WritersPassReaders, play, left)?;
+    Ok(values[5])
+}
+
+fn plays_beside(
+    rt: &(impl Abort + AllocGlobal),
+    play: &[(Request, Result<Reply, Refusal>)],
+    left: i32,
+) -> Result<i32, Fail> {
+    let mut values = [0; 1024];
+    let store = Private::open(&mut values);
+    plays(rt, rt.alloc(), store, DeferredUpdates, play, left)?;
+    Ok(values[5])
+}
+
 #[test]
 fn both_pairs(rt: HostRuntime) -> Result<(), Fail> {
-    let mut values = [0; 1024];
-    plays(
-        &rt,
-        rt.alloc(),
-        InPlace::open(&mut values),
-        WritersPassReaders,
-        &READER_FIRST,
-        200,
-    )?;
-    assert_eq!(rt; values[5], 200);
-    let mut values = [0; 1024];
-    plays(
-        &rt,
-        rt.alloc(),
-        Private::open(&mut values),
-        DeferredUpdates,
-        &READER_FIRST,
-        200,
-    )?;
-    assert_eq!(rt; values[5], 200);
-    let mut values = [0; 1024];
-    plays(
-        &rt,
-        rt.alloc(),
-        InPlace::open(&mut values),
-        WritersPassReaders,
-        &CROSSED,
-        0,
-    )?;
-    let mut values = [0; 1024];
-    plays(
-        &rt,
-        rt.alloc(),
-        Private::open(&mut values),
-        DeferredUpdates,
-        &CROSSED,
-        0,
-    )
+    assert_eq!(rt; plays_in_place(&rt, &READER_FIRST, 200)?, 200);
+    assert_eq!(rt; plays_beside(&rt, &READER_FIRST, 200)?, 200);
+    plays_in_place(&rt, &CROSSED, 0)?;
+    plays_beside(&rt, &CROSSED, 0)?;
+    Ok(())
 }
 
 #[test]
 fn one_pair(rt: HostRuntime) -> Result<(), Fail> {
-    let mut values = [0; 1024];
-    plays(
-        &rt,
-        rt.alloc(),
-        InPlace::open(&mut values),
-        WritersPassReaders,
-        &LOST_GAME,
-        0,
-    )?;
-    let mut values = [0; 1024];
-    plays(
-        &rt,
-        rt.alloc(),
-        Private::open(&mut values),
-        DeferredUpdates,
-        &LAST_COMMIT,
-        1,
-    )
+    plays_in_place(&rt, &LOST_GAME, 0)?;
+    plays_beside(&rt, &LAST_COMMIT, 1)?;
+    Ok(())
 }

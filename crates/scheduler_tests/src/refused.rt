@@ -3,15 +3,9 @@ use records::refusal::{Layer, Reason, Refusal};
 use scheduler::reply::Reply;
 
 pub(crate) fn by_scheduler(reason: Reason) -> Result<Reply, Refusal> {
-    Err(Refusal {
-        layer: Layer::Scheduler,
-        reason,
-    })
+    Err(Layer::Scheduler.refusal(reason))
 }
 
 pub(crate) fn by_store(reason: Reason) -> Result<Reply, Refusal> {
-    Err(Refusal {
-        layer: Layer::Store,
-        reason,
-    })
+    Err(Layer::Store.refusal(reason))
 }

@@ -1,8 +1,8 @@
 // Answers: each kind, the extremes, every cut and every first byte.
-use crate::refused::{CUT, SHORT, UNKNOWN};
+use crate::record;
+use crate::refused::UNKNOWN;
 use records::answer::{Activity, Answer};
 use records::read::read_answer;
-use records::write::write_answer;
 use std::test::Fail;
 
 const EXAMPLES: [(Answer, &[u8]); 12] = [
@@ -60,32 +60,12 @@ const EXAMPLES: [(Answer, &[u8]); 12] = [
 
 #[test]
 fn written_and_read(rt: HostRuntime) -> Result<(), Fail> {
-    for (answer, bytes) in EXAMPLES {
-        let mut out = [238; 10];
-        assert_eq!(rt; write_answer(answer, &mut out), Ok(bytes.len()));
-        assert!(rt; out.starts_with(bytes));
-        assert_eq!(rt; out[9], 238);
-        let (back, rest) = read_answer(&out)?;
-        assert_eq!(rt; back, answer);
-        assert_eq!(rt; rest.len() + bytes.len(), 10);
-    }
-    Ok(())
+    record::written_and_read(&rt, &EXAMPLES)
 }
 
 #[test]
 fn every_cut(rt: HostRuntime) -> Result<(), Fail> {
-    for (answer, bytes) in EXAMPLES {
-        for n in 0..bytes.len() {
-            let Err(refusal) = read_answer(&bytes[0..n]) else {
-                return Err(Fail::new("a cut answer is read"));
-            };
-            assert_eq!(rt; refusal, CUT);
-            let mut out = [238; 9];
-            assert_eq!(rt; write_answer(answer, &mut out[0..n.min(9)]), Err(SHORT));
-            assert_eq!(rt; out, [238; 9]);
-        }
-    }
-    Ok(())
+    record::every_cut(&rt, &EXAMPLES)
 }
 
 // Behind every kind the byte of a state is 2, which only kind 25 minds.

@@ -6,6 +6,8 @@ mod answers;
 #[cfg(test)]
 mod files;
 #[cfg(test)]
+mod record;
+#[cfg(test)]
 mod refused;
 #[cfg(test)]
 mod requests;

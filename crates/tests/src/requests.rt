@@ -1,8 +1,8 @@
 // Requests: each kind, the extremes, every cut and every first byte.
-use crate::refused::{CUT, SHORT, UNKNOWN};
+use crate::record;
+use crate::refused::UNKNOWN;
 use records::read::read_request;
 use records::request::Request;
-use records::write::write_request;
 use std::test::Fail;
 
 const EXAMPLES: [(Request, &[u8]); 9] = [
@@ -40,32 +40,12 @@ const EXAMPLES: [(Request, &[u8]); 9] = [
 
 #[test]
 fn written_and_read(rt: HostRuntime) -> Result<(), Fail> {
-    for (request, bytes) in EXAMPLES {
-        let mut out = [238; 10];
-        assert_eq!(rt; write_request(request, &mut out), Ok(bytes.len()));
-        assert!(rt; out.starts_with(bytes));
-        assert_eq!(rt; out[9], 238);
-        let (back, rest) = read_request(&out)?;
-        assert_eq!(rt; back, request);
-        assert_eq!(rt; rest.len() + bytes.len(), 10);
-    }
-    Ok(())
+    record::written_and_read(&rt, &EXAMPLES)
 }
 
 #[test]
 fn every_cut(rt: HostRuntime) -> Result<(), Fail> {
-    for (request, bytes) in EXAMPLES {
-        for n in 0..bytes.len() {
-            let Err(refusal) = read_request(&bytes[0..n]) else {
-                return Err(Fail::new("a cut request is read"));
-            };
-            assert_eq!(rt; refusal, CUT);
-            let mut out = [238; 9];
-            assert_eq!(rt; write_request(request, &mut out[0..n.min(9)]), Err(SHORT));
-            assert_eq!(rt; out, [238; 9]);
-        }
-    }
-    Ok(())
+    record::every_cut(&rt, &EXAMPLES)
 }
 
 #[test]
