@@ -1,2 +1,3 @@
 mod Widths
+mod Reading
 mod Cut
