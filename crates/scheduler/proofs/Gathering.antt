@@ -1,6 +1,6 @@
 -- One lock, one transaction or one block of items more, as the waits are gathered.
 use Rattle.std.proofs.Common.{◌≡◌, ℕ, ◌+◌, ◌*◌, ◌/◌, ◌%◌, ◌<◌, ◌≤◌, Bool, true, false, ◌&&◌, ◌||◌, eqb, ltb, List, [], length, get_or, take, set, replicate, Some, None, sym, refl, ap, ◌∙◌, subst, inl, inr, arith}
-use Rattle.std.proofs.lemmas.List.{get_or_past, get_or-replicate, get_or-set_other, get_or-set_same, length-replicate, take_more}
+use Rattle.std.proofs.lemmas.List.{get_or_past, get_or-replicate, get_or-set_other, get_or-set_same, length-replicate, length-set, take_more}
 use Rattle.std.proofs.lemmas.Bool.{and_from, and_left, and_parts, and_right, both_ways, cases_Bool, cases_eq, cases_lt, eq-eqb, eqb-true, le-ltb, lt-ltb, ne_eqb}
 use Rattle.scheduler.specs.declared.lock.Kind.{Kind}
 use Rattle.scheduler.specs.declared.lock.Lock.{Lock}
@@ -12,6 +12,7 @@ use Rattle.scheduler.specs.Bits.{has}
 use Rattle.scheduler.specs.Blockers.{In}
 use Rattle.scheduler.specs.Edges.{Covers, Held, in_block, number_at}
 use Rattle.scheduler.specs.Found.{At}
+use Rattle.scheduler.specs.Holding.{Puts}
 use Rattle.scheduler.specs.ItemSets.{no_places}
 use Rattle.scheduler.specs.Ledger.{holds, is_lock, same_kind, state_of}
 use Rattle.scheduler.proofs.Bit.{has-none}
@@ -150,3 +151,18 @@ module _ (os : List Transaction) (last : ℕ) (up : rising 0 last os ≡ true) (
             ∙ nothing-more (has (get_or cells j no_places).bits a)
             ∙ ap (λ (b : Bool). has (get_or cells j no_places).bits a || b) (sym (elsewhere j a lj n))
       ]
+
+  -- it is of the block, and is put to the cells of its kind
+  pub held_put : (cells next : List Places) (p : ℕ) → Held os (take k ls) w kind cells → length cells ≡ 1024 → in_block w (get_or ls k no_lock).item ≡ true → At os (get_or ls k no_lock).owner p
+      → Puts (same_kind (get_or ls k no_lock).kind kind) cells next ((get_or ls k no_lock).item % 1024) p → Held os (take (k + 1) ls) w kind next × (length next ≡ 1024)
+  held_put cells next p H long in' at = go (same_kind (get_or ls k no_lock).kind kind) refl
+    where
+      go : (b : Bool) → same_kind (get_or ls k no_lock).kind kind ≡ b → Puts b cells next ((get_or ls k no_lock).item % 1024) p → Held os (take (k + 1) ls) w kind next × (length next ≡ 1024)
+      go false e same = rw same (held_skip cells H (ap (λ (b : Bool). b && in_block w (get_or ls k no_lock).item) e), long)
+      go true e put =
+          let small : (get_or ls k no_lock).item % 1024 < length cells = omega (arith, long) in
+          rw put.1 (held_add cells p put.0 H (ap (λ (b : Bool). b && in_block w (get_or ls k no_lock).item) e ∙ in') at small put.2, length-set cells _ put.0 ∙ long)
+
+  -- it is of another block
+  pub held-elsewhere : (cells : List Places) → Held os (take k ls) w kind cells → in_block w (get_or ls k no_lock).item ≡ false → Held os (take (k + 1) ls) w kind cells
+  held-elsewhere cells H e = held_skip cells H (and_right (same_kind (get_or ls k no_lock).kind kind) (in_block w (get_or ls k no_lock).item) e)

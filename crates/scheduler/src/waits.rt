@@ -1,5 +1,5 @@
 // The search for a chain of waits. Who waits for whom is gathered for each block of 1,024 items that has locks, in a
-// pass over the locks for each kind of lock and one for the commits, however many transactions wait.
+// pass over the locks and one for the commits, however many transactions wait.
 ghost use Rattle.std.specs.Prelude.{◌≡◌, ℕ, ◌<◌, false, length, not, ◌&&◌, ◌||◌, Decides, slice_index_or};
 ghost use Rattle.scheduler.specs.declared.lock.Kind.TheVariants.{Read, Write};
 ghost use Rattle.scheduler.specs.Orders.{no_transaction};
@@ -7,15 +7,23 @@ ghost use Rattle.scheduler.specs.Bits.{has};
 ghost use Rattle.scheduler.specs.Circles.{Circle};
 ghost use Rattle.scheduler.specs.Edges.{Drawn, More, asks, between, commits, in_block};
 ghost use Rattle.scheduler.specs.Holding.{Holds};
+ghost use Rattle.scheduler.specs.Ledger.{same_kind};
 ghost use Rattle.scheduler.specs.Tables.{ledger_of};
 
-use crate::holders::{BLOCK, Holders, counts};
-use crate::lock::Kind;
+use crate::holders::{BLOCK, Holders};
+use crate::lock::{Kind, Lock};
 use crate::places::Places;
 use crate::reach::leading_to;
 use crate::rule::LockRule;
 use crate::tables::{OPEN, Tables};
 use crate::transaction::{Ask, State};
+
+/// Whether the lock is of the kind, on an item of the block.
+fn counts(lock: Lock, kind: Kind, block: u16) -> bool
+    ensures { result ≡ (same_kind lock.kind kind && in_block block lock.item) }
+{
+    lock.kind == kind && lock.item / BLOCK == block
+}
 
 /// Of the holders of read and of write locks, those beside which the rule says no to the kind.
 fn barring<R: LockRule>(rule: &R, kind: Kind, readers: Places, writers: Places) -> Places
