@@ -22,18 +22,6 @@ pub(crate) struct Holders {
 }
 
 impl Holders {
-    fn none(block: u16) -> Holders
-        ensures block { result.block ≡ block }
-        ensures readers { result.readers ≡ replicate 1024 no_places }
-        ensures writers { result.writers ≡ replicate 1024 no_places }
-    {
-        Holders {
-            block,
-            readers: [Places::NONE; 1024],
-            writers: [Places::NONE; 1024],
-        }
-    }
-
     /// Adds the place to those that hold a lock of the kind on the item at `j` in the block.
     fn add(&mut self, kind: Kind, j: usize, place: usize)
         requires within { j < 1024 }
@@ -62,20 +50,20 @@ impl Tables {
         blocks
     }
 
-    /// Those that hold locks on the items of the block.
-    pub(crate) fn holders(&self, block: u16) -> Holders
-        ensures block { result.block ≡ block }
-        ensures holders { Holds self.now.«open».items self.now.locks.inner.items result }
+    /// Gathers those that hold locks on the items of the block. They are lent, since large arrays are slow to hand out.
+    pub(crate) fn gather(&self, holders: &mut Holders)
+        requires readers { holders.old.readers ≡ replicate 1024 no_places }
+        requires writers { holders.old.writers ≡ replicate 1024 no_places }
+        ensures block { holders.new.block ≡ holders.old.block }
+        ensures holders { Holds self.now.«open».items self.now.locks.inner.items holders.new }
     {
         let locks = self.locks.list();
-        let mut holders = Holders::none(block);
         for lock in locks {
-            if lock.item / BLOCK == block {
+            if lock.item / BLOCK == holders.block {
                 if let Some(place) = self.find(lock.owner) {
                     holders.add(lock.kind, usize::from(lock.item % BLOCK), place);
                 }
             }
         }
-        holders
     }
 }

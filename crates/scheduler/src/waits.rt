@@ -114,7 +114,12 @@ impl Tables {
         let blocks = self.blocks();
         for block in 0..64u16 {
             if blocks.contains(usize::from(block)) {
-                let holders = self.holders(block);
+                let mut holders = Holders {
+                    block,
+                    readers: [Places::NONE; 1024],
+                    writers: [Places::NONE; 1024],
+                };
+                self.gather(&mut holders);
                 self.add_asks(rule, &holders, &mut rows);
                 self.add_commits(&holders, &mut rows);
             }

@@ -19,7 +19,7 @@ loop-block-preserved g c =
     let k = c.loop-block.block in
     elim c.if-contains.branch [
       | then-contains w ↦
-          let its = w.holders-holders.ensures.block in
+          let its = w.gather.ensures.block in
           let asked : More os (asks (in_block k) ok ls) c.loop-block.rows w.add_asks.new.rows = subst (λ n. More os (asks (in_block n) ok ls) c.loop-block.rows w.add_asks.new.rows) its w.add_asks.ensures in
           let committed : More os (commits (in_block k) ls ls) w.add_asks.new.rows w.add_commits.new.rows = subst (λ n. More os (commits (in_block n) ls ls) w.add_asks.new.rows w.add_commits.new.rows) its w.add_commits.ensures in
           rw w.rows-is (upto_add ok os ls k c.loop-block.rows _ _ c.loop-block.invariant asked committed)

@@ -12,8 +12,8 @@ use Rattle.scheduler.specs.Holding.{Puts}
 use Rattle.scheduler.specs.ItemSets.{no_places}
 use Rattle.scheduler.specs.Ledger.{same_kind}
 use Rattle.scheduler.proofs.Gathering.{blank, held-elsewhere, held_gone, held_put}
-use Rattle.scheduler.proofs.tables.Tables.holders.Goals as goal
-use Rattle.scheduler.proofs.tables.Tables.holders.Goals.{then-lock-block+in-Some, then-lock-block+in_default, else-lock-block}
+use Rattle.scheduler.proofs.tables.Tables.gather.Goals as goal
+use Rattle.scheduler.proofs.tables.Tables.gather.Goals.{then-lock-holders+in-Some, then-lock-holders+in_default, else-lock-holders}
 
 -- of no locks, nobody is a holder
 none : (os : List Transaction) (w : ℕ) (k : Kind) (cells : List Places) → cells ≡ replicate 1024 no_places → Held os [] w k cells × (length cells ≡ 1024)
@@ -22,9 +22,9 @@ none os w k cells e =
 
 pub loop-lock-init : goal.loop-lock-init
 loop-lock-init c =
-    let n = c.none-holders.ensures in
     let os = c.args.self.now.open.items in
-    (c.list-locks.ensures, n.block, none os c.args.block Read _ n.readers, none os c.args.block Write _ n.writers)
+    let w = c.args.holders.now.block in
+    (c.list-locks.ensures, refl, none os w Read _ c.requires.readers, none os w Write _ c.requires.writers)
 
 pub loop-lock-preserved : goal.loop-lock-preserved
 loop-lock-preserved c =
@@ -33,23 +33,23 @@ loop-lock-preserved c =
     let ls = c.list-locks.result.now in
     let k = c.loop-lock.lock-index in
     let l = get_or ls k no_lock in
-    let w = c.args.block in
+    let w = c.args.holders.now.block in
     let I = c.loop-lock.invariant in
     let in' = c.loop-lock-test.true in
-    elim c.if-lock-block.branch [
-      | then-lock-block+in-Some v ↦
-          let here = eq-eqb _ w v.if-lock-block.true in
+    elim c.if-lock-holders.branch [
+      | then-lock-holders+in-Some v ↦
+          let here = eq-eqb _ w (v.if-lock-holders.true ∙ I.1) in
           let put : (kind : Kind) (cells next : List Places) → Held os (take k ls) w kind cells × (length cells ≡ 1024) → Puts (same_kind l.kind kind) cells next v.from.result v.in-Some.place → Held os (take (k + 1) ls) w kind next × (length next ≡ 1024) =
           λ kind cells next H p. held_put os T.begins T.rising ls k w kind in' cells next v.in-Some.place H.0 H.1 here v.in-Some.ensures (subst (λ (j : ℕ). Puts (same_kind l.kind kind) cells next j v.in-Some.place) v.from.ensures p) in
           rw v.holders-is (I.0, v.add.ensures.block ∙ I.1, put Read _ _ I.2 v.add.ensures.readers, put Write _ _ I.3 v.add.ensures.writers)
-      | then-lock-block+in_default v ↦ rw v.holders-is (
+      | then-lock-holders+in_default v ↦ rw v.holders-is (
           I.0,
           I.1,
           (held_gone os T.begins T.rising ls k w Read in' c.loop-lock.holders.readers I.2.0 v.in_default.ensures, I.2.1),
           (held_gone os T.begins T.rising ls k w Write in' c.loop-lock.holders.writers I.3.0 v.in_default.ensures, I.3.1),
         )
-      | else-lock-block v ↦
-          let away = ne_eqb _ w v.if-lock-block.false in
+      | else-lock-holders v ↦
+          let away = ne_eqb _ w (λ e. v.if-lock-holders.false (e ∙ sym I.1)) in
           rw v.holders-is (
             I.0,
             I.1,
@@ -64,6 +64,6 @@ returns c =
     let ls = c.list-locks.result.now in
     let I = c.loop-lock.invariant in
     let h = c.loop-lock.holders in
-    let all : (kind : Kind) (cells : List Places) → Held os (take c.loop-lock.lock-index ls) c.args.block kind cells → Held os c.args.self.now.locks.inner.items h.block kind cells =
-    λ kind cells H. subst (λ (n : ℕ). Held os c.args.self.now.locks.inner.items n kind cells) (sym I.1) (subst (λ (xs : List Lock). Held os xs c.args.block kind cells) (take_all c.loop-lock.lock-index ls c.loop-lock-test.false ∙ I.0) H) in
+    let all : (kind : Kind) (cells : List Places) → Held os (take c.loop-lock.lock-index ls) c.args.holders.now.block kind cells → Held os c.args.self.now.locks.inner.items h.block kind cells =
+    λ kind cells H. subst (λ (n : ℕ). Held os c.args.self.now.locks.inner.items n kind cells) (sym I.1) (subst (λ (xs : List Lock). Held os xs c.args.holders.now.block kind cells) (take_all c.loop-lock.lock-index ls c.loop-lock-test.false ∙ I.0) H) in
     record { block = I.1; holders = record { readers = all Read h.readers I.2.0; writers = all Write h.writers I.3.0 } }
