@@ -1,19 +1,19 @@
 -- What a push, a filter and a new value leave of a list of entries.
-use Rattle.std.proofs.Common.{◌≡◌, ℕ, zero, suc, ◌+◌, ◌<◌, ◌≤◌, Bool, true, false, cond, not, ◌&&◌, eqb, ltb, List, [], ◌∷◌, ◌++◌, length, ℤ, Some, None, filter, Option, sym, refl, ap, ◌∙◌, ⊎_elim, arith}
+use Rattle.std.proofs.Common.{◌≡◌, ℕ, zero, suc, ◌+◌, ◌<◌, ◌≤◌, Bool, true, false, cond, not, ◌&&◌, eqb, ltb, List, [], ◌∷◌, ◌++◌, length, ℤ, Some, None, filter, Option, sym, refl, ap, ◌∙◌, ⊎_elim, arith, find}
 use Rattle.std.proofs.lemmas.Bool.{and_from, and_left, and_parts, cases_Bool, cond-false, cond-true, eqb-false, eqb-true, lt-ltb, ne_eqb}
 use Rattle.std.proofs.lemmas.Bool.Decides.{nat_tests}
 use Rattle.store.specs.declared.table.Entry.{Entry}
-use Rattle.store.specs.Entries.{apart, bounded, clear_of, count_of, entry, first, is_on, is_pair, others, owned, revalued, same_item, same_pair}
-use Rattle.store.specs.Finding.{first-clear, first_here, first_past}
+use Rattle.store.specs.Entries.{apart, bounded, clear_of, count_of, entry, is_on, is_pair, others, owned, revalued, same_item, same_pair}
+use Rattle.store.specs.Finding.{find-clear, find_here, find_past}
 
 pub nat_eq_flip : (a b : ℕ) → eqb a b ≡ eqb b a
 nat_eq_flip a b = grind (arith, nat_tests)
 
-none_off : (q : Entry → Bool) (e : Entry) (es : List Entry) → first q (e ∷ es) ≡ None → (q e ≡ false) × (first q es ≡ None)
+none_off : (q : Entry → Bool) (e : Entry) (es : List Entry) → find q (e ∷ es) ≡ None → (q e ≡ false) × (find q es ≡ None)
 none_off q e es h =
     ⊎_elim
-    (λ is. let got = first_here q e es is in let z : ◌≡◌ {A = ℕ} 0 1 = cc in absurd (omega arith))
-    (λ off. (off, sym (first_past q e es off) ∙ h))
+    (λ is. let got = find_here q e es is in let z : ◌≡◌ {A = ℕ} 0 1 = cc in absurd (omega arith))
+    (λ off. (off, sym (find_past q e es off) ∙ h))
     (cases_Bool (q e))
 
 -- ---- one entry more
@@ -22,12 +22,12 @@ abbrev pub or_new : (Entry → Bool) → Entry → Option Entry → Option Entry
 or_new q e None = cond (q e) (Some e) None
 or_new q e (Some f) = Some f
 
-pub first-pushed : (q : Entry → Bool) (es : List Entry) (e : Entry) → first q (es ++ e ∷ []) ≡ or_new q e (first q es)
-first-pushed q [] e = refl
-first-pushed q (f ∷ es) e =
+pub find-pushed : (q : Entry → Bool) (es : List Entry) (e : Entry) → find q (es ++ e ∷ []) ≡ or_new q e (find q es)
+find-pushed q [] e = refl
+find-pushed q (f ∷ es) e =
     ⊎_elim
-    (λ is. first_here q f (es ++ e ∷ []) is ∙ sym (ap (or_new q e) (first_here q f es is)))
-    (λ off. first_past q f (es ++ e ∷ []) off ∙ first-pushed q es e ∙ sym (ap (or_new q e) (first_past q f es off)))
+    (λ is. find_here q f (es ++ e ∷ []) is ∙ sym (ap (or_new q e) (find_here q f es is)))
+    (λ off. find_past q f (es ++ e ∷ []) off ∙ find-pushed q es e ∙ sym (ap (or_new q e) (find_past q f es off)))
     (cases_Bool (q f))
 
 clear-push : (clash : Entry → Entry → Bool) (f : Entry) (es : List Entry) (e : Entry) → clear_of clash f es ≡ true → clash f e ≡ false → clear_of clash f (es ++ e ∷ []) ≡ true
@@ -37,7 +37,7 @@ clear-push clash f (g ∷ es) e h off =
     and_from (not (clash f g)) (clear_of clash f (es ++ e ∷ [])) p.0 (clear-push clash f es e p.1 off)
 
 -- nothing clashes with e, and clashes go both ways
-pub apart-push : (clash : Entry → Entry → Bool) (es : List Entry) (e : Entry) → ((f : Entry) → clash f e ≡ clash e f) → apart clash es ≡ true → first (clash e) es ≡ None → apart clash (es ++ e ∷ []) ≡ true
+pub apart-push : (clash : Entry → Entry → Bool) (es : List Entry) (e : Entry) → ((f : Entry) → clash f e ≡ clash e f) → apart clash es ≡ true → find (clash e) es ≡ None → apart clash (es ++ e ∷ []) ≡ true
 apart-push clash [] e flip h none = refl
 apart-push clash (f ∷ es) e flip h none =
     let p = and_parts (clear_of clash f es) (apart clash es) h in
@@ -87,15 +87,15 @@ count_kept t q (e ∷ es) =
       | false ↦ elim (owned t e) as (λ b. count_of t (filter q es) ≤ length (cond b (e ∷ filter (owned t) es) (filter (owned t) es))) [ true ↦ omega (arith, less) | false ↦ less ]
     ]
 
-first_kept_none : (q p : Entry → Bool) (es : List Entry) → first q es ≡ None → first q (filter p es) ≡ None
-first_kept_none q p [] h = refl
-first_kept_none q p (e ∷ es) h =
+find_kept_none : (q p : Entry → Bool) (es : List Entry) → find q es ≡ None → find q (filter p es) ≡ None
+find_kept_none q p [] h = refl
+find_kept_none q p (e ∷ es) h =
     let r = none_off q e es h in
-    let less = first_kept_none q p es r.1 in
-    elim (p e) as (λ b. first q (cond b (e ∷ filter p es) (filter p es)) ≡ None) [ true ↦ first_past q e (filter p es) r.0 ∙ less | false ↦ less ]
+    let less = find_kept_none q p es r.1 in
+    elim (p e) as (λ b. find q (cond b (e ∷ filter p es) (filter p es)) ≡ None) [ true ↦ find_past q e (filter p es) r.0 ∙ less | false ↦ less ]
 
 -- t's entries are gone, and the other pairs have what they had
-pub pair_kept : (es : List Entry) (t u i : ℕ) → first (is_pair u i) (filter (others t) es) ≡ cond (eqb u t) None (first (is_pair u i) es)
+pub pair_kept : (es : List Entry) (t u i : ℕ) → find (is_pair u i) (filter (others t) es) ≡ cond (eqb u t) None (find (is_pair u i) es)
 pair_kept [] t u i = elim (eqb u t) as (λ b. ◌≡◌ {A = Option Entry} None (cond b None None)) [ true ↦ refl | false ↦ refl ]
 pair_kept (e ∷ es) t u i =
     let less = pair_kept es t u i in
@@ -103,17 +103,17 @@ pair_kept (e ∷ es) t u i =
     ⊎_elim
     (λ own.
     let gone : filter (others t) (e ∷ es) ≡ rest = cond-false (others t e) (e ∷ rest) rest (ap not own) in
-    ap (first (is_pair u i)) gone
+    ap (find (is_pair u i)) gone
     ∙ less
     ∙ ⊎_elim
     (λ same. cond-true (eqb u t) None _ same ∙ sym (cond-true (eqb u t) None _ same))
     (λ differ.
     let off : owned u e ≡ false = ne_eqb e.owner u (λ x. eqb-false u t differ (sym x ∙ eqb-true e.owner t own)) in
-    ap (λ (o : Option Entry). cond (eqb u t) None o) (sym (first_past (is_pair u i) e es (and_left (owned u e) (is_on i e) off))))
+    ap (λ (o : Option Entry). cond (eqb u t) None o) (sym (find_past (is_pair u i) e es (and_left (owned u e) (is_on i e) off))))
     (cases_Bool (eqb u t)))
     (λ foreign.
     let stays : filter (others t) (e ∷ es) ≡ e ∷ rest = cond-true (others t e) (e ∷ rest) rest (ap not foreign) in
-    ap (first (is_pair u i)) stays
+    ap (find (is_pair u i)) stays
     ∙ ap (λ (o : Option Entry). cond (is_pair u i e) (Some e) o) less
     ∙ ⊎_elim
     (λ same.
@@ -128,21 +128,21 @@ abbrev pub spare : ℕ → Option Entry → Option Entry
 spare t None = None
 spare t (Some e) = cond (owned t e) None (Some e)
 
-pub on_kept : (es : List Entry) (t i : ℕ) → apart same_item es ≡ true → first (is_on i) (filter (others t) es) ≡ spare t (first (is_on i) es)
+pub on_kept : (es : List Entry) (t i : ℕ) → apart same_item es ≡ true → find (is_on i) (filter (others t) es) ≡ spare t (find (is_on i) es)
 on_kept [] t i a = refl
 on_kept (e ∷ es) t i a =
     let p = and_parts (clear_of same_item e es) (apart same_item es) a in
     let rest = filter (others t) es in
     ⊎_elim
     (λ on.
-    let none : first (is_on i) es ≡ None = ap (λ (j : ℕ). first (is_on j) es) (sym (eqb-true e.item i on)) ∙ first-clear same_item e es p.0 in
-    let none' : first (is_on i) rest ≡ None = first_kept_none (is_on i) (others t) es none in
-    elim (owned t e) as (λ b. first (is_on i) (cond (not b) (e ∷ rest) rest) ≡ cond b None (Some e)) [ true ↦ none' | false ↦ first_here (is_on i) e rest on ]
-    ∙ sym (ap (spare t) (first_here (is_on i) e es on)))
+    let none : find (is_on i) es ≡ None = ap (λ (j : ℕ). find (is_on j) es) (sym (eqb-true e.item i on)) ∙ find-clear same_item e es p.0 in
+    let none' : find (is_on i) rest ≡ None = find_kept_none (is_on i) (others t) es none in
+    elim (owned t e) as (λ b. find (is_on i) (cond (not b) (e ∷ rest) rest) ≡ cond b None (Some e)) [ true ↦ none' | false ↦ find_here (is_on i) e rest on ]
+    ∙ sym (ap (spare t) (find_here (is_on i) e es on)))
     (λ off.
-    elim (others t e) as (λ b. first (is_on i) (cond b (e ∷ rest) rest) ≡ first (is_on i) rest) [ true ↦ first_past (is_on i) e rest off | false ↦ refl ]
+    elim (others t e) as (λ b. find (is_on i) (cond b (e ∷ rest) rest) ≡ find (is_on i) rest) [ true ↦ find_past (is_on i) e rest off | false ↦ refl ]
     ∙ on_kept es t i p.1
-    ∙ sym (ap (spare t) (first_past (is_on i) e es off)))
+    ∙ sym (ap (spare t) (find_past (is_on i) e es off)))
     (cases_Bool (is_on i e))
 
 -- ---- another value at one place
@@ -165,3 +165,8 @@ pub count-revalued : (t : ℕ) (es : List Entry) (k : ℕ) (v : ℤ) → count_o
 count-revalued t [] k v = refl
 count-revalued t (e ∷ es) zero v = elim (owned t e) as (λ b. length (cond b (entry e.owner e.item v ∷ filter (owned t) es) (filter (owned t) es)) ≡ length (cond b (e ∷ filter (owned t) es) (filter (owned t) es))) [ true ↦ refl | false ↦ refl ]
 count-revalued t (e ∷ es) (suc k) v = elim (owned t e) as (λ b. length (cond b (e ∷ filter (owned t) (revalued es k v)) (filter (owned t) (revalued es k v))) ≡ length (cond b (e ∷ filter (owned t) es) (filter (owned t) es))) [ true ↦ ap suc (count-revalued t es k v) | false ↦ count-revalued t es k v ]
+
+pub length-revalued : (es : List Entry) (k : ℕ) (v : ℤ) → length (revalued es k v) ≡ length es
+length-revalued [] k v = refl
+length-revalued (e ∷ es) zero v = refl
+length-revalued (e ∷ es) (suc k) v = ap suc (length-revalued es k v)

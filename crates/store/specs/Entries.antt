@@ -1,8 +1,7 @@
 -- The entries of a table, as a list.
-use Rattle.std.specs.Prelude.{ℕ, zero, suc, min, Bool, true, cond, not, ◌&&◌, List, [], ◌∷◌, length, take, ℤ, pos, Some, None, filter, Option, ◌==◌, nat_lt, slice_set}
+use Rattle.std.specs.Prelude.{ℕ, zero, suc, min, Bool, true, cond, not, ◌&&◌, List, [], ◌∷◌, length, ℤ, pos, filter, find, Option, ◌==◌, nat_lt, slice_set}
 use Rattle.std.specs.Option.{option_map}
 use Rattle.store.specs.declared.table.Entry.{Entry}
-use Rattle.store.specs.declared.table.Table.{Table}
 use Rattle.store.specs.Meaning.{Writes}
 
 -- what a read past the end gives
@@ -11,9 +10,6 @@ blank = record { owner = 0; item = 0; value = pos 0 }
 
 abbrev pub entry : ℕ → ℕ → ℤ → Entry
 entry t i v = record { owner = t; item = i; value = v }
-
-abbrev pub entries : Table → List Entry
-entries b = take b.len b.at
 
 -- the entries with another value at one place
 abbrev pub revalued : List Entry → ℕ → ℤ → List Entry
@@ -33,20 +29,15 @@ is_on i e = e.item == i
 abbrev pub is_pair : ℕ → ℕ → Entry → Bool
 is_pair t i e = owned t e && is_on i e
 
--- the first entry that passes
-abbrev pub first : (Entry → Bool) → List Entry → Option Entry
-first q [] = None
-first q (e ∷ es) = cond (q e) (Some e) (first q es)
-
 abbrev pub value_of : Entry → ℤ
 value_of e = e.value
 
 -- the value kept for a pair, and the value kept for an item
 abbrev pub found : List Entry → Writes
-found es t i = option_map value_of (first (is_pair t i) es)
+found es t i = option_map value_of (find (is_pair t i) es)
 
 abbrev pub image : List Entry → ℕ → Option ℤ
-image es i = option_map value_of (first (is_on i) es)
+image es i = option_map value_of (find (is_on i) es)
 
 -- how many entries are t's
 abbrev pub count_of : ℕ → List Entry → ℕ

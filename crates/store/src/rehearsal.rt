@@ -6,7 +6,7 @@ ghost use Rattle.store.specs.Rehearsals.{accepted};
 use crate::store::Store;
 
 /// A value for an item.
-#[derive(Clone, Copy)]
+#[derive(Clone, Copy, PartialEq, Eq, Debug)]
 pub struct Write {
     pub item: u16,
     pub value: i32,
