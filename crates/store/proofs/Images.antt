@@ -3,8 +3,10 @@ use Rattle.std.proofs.Common.{◌≡◌, ℕ, ◌<◌, Bool, true, false, cond, 
 use mathlib.Core.Path.{fun_ext}
 use Rattle.std.proofs.lemmas.List.{ext_get_or, get_or-set_other, get_or-set_same, length-set}
 use Rattle.std.proofs.lemmas.Bool.{and_right, cases_Bool, cases_eq, cond-false, cond-true, eq-eqb, eqb-false, eqb-true, ne_eqb}
+use Rattle.std.proofs.Math.Bool.{and-true}
+use Rattle.std.proofs.lemmas.List.Folds.{find-append}
 use Rattle.std.specs.Option.{option_map}
-use Rattle.store.proofs.Kept.{find-pushed, on_kept, or_new, pair_kept, spare}
+use Rattle.store.proofs.Kept.{on_kept, or_new, pair_kept, spare}
 use Rattle.store.proofs.Landing.{get_or-items, landed_at, length_items, length-landed}
 use Rattle.store.proofs.Workspace.{pair_flip}
 use Rattle.store.specs.declared.table.Entry.{Entry}
@@ -149,7 +151,7 @@ module _ (es : List Entry) (vs : List ℤ) (t i : ℕ) (v : ℤ) (in' : i < size
         ⊎_elim
         (λ same.
         let on : p ≡ mine u (Some e) = pair_by_item es u j a ∙ ap (mine u) (ap (λ (k : ℕ). find (is_on k) es) same ∙ has) in
-        let both : (eqb u t && eqb j i) ≡ eqb u t = ap (λ (b : Bool). eqb u t && b) (eq-eqb j i same) ∙ and_true (eqb u t) in
+        let both : (eqb u t && eqb j i) ≡ eqb u t = ap (λ (b : Bool). eqb u t && b) (eq-eqb j i same) ∙ and-true (eqb u t) in
         ap (λ (y : ℤ). told y p) (now_there j same)
         ∙ ap (told v) on
         ∙ own_point u x
@@ -157,10 +159,6 @@ module _ (es : List Entry) (vs : List ℤ) (t i : ℕ) (v : ℤ) (in' : i < size
         ∙ sym (ap (λ (b : Bool). cond b (Some v) (told x p)) both))
         (λ ne. ap (λ (y : ℤ). told y p) (still_there j ne) ∙ sym (cond-false (eqb u t && eqb j i) (Some v) (told x p) (and_right (eqb u t) (eqb j i) (ne_eqb j i ne))))
         (cases_eq j i)))
-      where
-        and_true : (x : Bool) → (x && true) ≡ x
-        and_true true = refl
-        and_true false = refl
 
   -- the item has none
   module _ (none : find (is_on i) es ≡ None) where
@@ -179,7 +177,7 @@ module _ (es : List Entry) (vs : List ℤ) (t i : ℕ) (v : ℤ) (in' : i < size
         same_behind es fs vs ws (length-set vs i v)
         (λ j lt.
         let o = find (is_on j) es in
-        ap (behind (get_or ws j (pos 0))) (find-pushed (is_on j) es new)
+        ap (behind (get_or ws j (pos 0))) (find-append (is_on j) es (new ∷ []))
         ∙ ⊎_elim
         (λ same.
         let none' : o ≡ None = ap (λ (k : ℕ). find (is_on k) es) same ∙ none in
@@ -201,7 +199,7 @@ module _ (es : List Entry) (vs : List ℤ) (t i : ℕ) (v : ℤ) (in' : i < size
         fun_ext (λ u. fun_ext (λ j.
         let x = get_or vs j (pos 0) in
         let p = find (is_pair u j) es in
-        ap (told (get_or ws j (pos 0))) (find-pushed (is_pair u j) es new)
+        ap (told (get_or ws j (pos 0))) (find-append (is_pair u j) es (new ∷ []))
         ∙ ⊎_elim
         (λ same.
         let none' : p ≡ None = found_nothing es u j (ap (λ (k : ℕ). find (is_on k) es) same ∙ none) in

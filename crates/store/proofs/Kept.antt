@@ -1,9 +1,14 @@
 -- What a push, a filter and a new value leave of a list of entries.
-use Rattle.std.proofs.Common.{◌≡◌, ℕ, zero, suc, ◌+◌, ◌<◌, ◌≤◌, Bool, true, false, cond, not, ◌&&◌, eqb, ltb, List, [], ◌∷◌, ◌++◌, length, ℤ, Some, None, filter, Option, sym, refl, ap, ◌∙◌, ⊎_elim, arith, find}
+use Rattle.std.proofs.Common.{◌≡◌, ℕ, zero, suc, ◌+◌, ◌<◌, ◌≤◌, Bool, true, false, cond, not, ◌&&◌, eqb, ltb, List, [], ◌∷◌, ◌++◌, length, length-append, ℤ, Some, None, filter, Option, sym, refl, ap, ◌∙◌, ⊎_elim, arith, find}
 use Rattle.std.proofs.lemmas.Bool.{and_from, and_left, and_parts, cases_Bool, cond-false, cond-true, eqb-false, eqb-true, lt-ltb, ne_eqb}
+use Rattle.std.proofs.lemmas.List.Elements.{filter-append}
+use Rattle.std.proofs.lemmas.List.Folds.{list_all-append}
+use Rattle.std.proofs.lemmas.Option.{none-some}
+use Rattle.std.specs.List.{list_all}
+use Rattle.std.specs.Option.{option_or}
 use Rattle.std.proofs.lemmas.Bool.Decides.{nat_tests}
 use Rattle.store.specs.declared.table.Entry.{Entry}
-use Rattle.store.specs.Entries.{apart, bounded, clear_of, count_of, entry, is_on, is_pair, others, owned, revalued, same_item, same_pair}
+use Rattle.store.specs.Entries.{apart, bounded, clear_of, count_of, in_bounds, entry, is_on, is_pair, others, owned, revalued, same_item, same_pair}
 use Rattle.store.specs.Finding.{find-clear, find_here, find_past}
 
 pub nat_eq_flip : (a b : ℕ) → eqb a b ≡ eqb b a
@@ -12,29 +17,17 @@ nat_eq_flip a b = grind (arith, nat_tests)
 none_off : (q : Entry → Bool) (e : Entry) (es : List Entry) → find q (e ∷ es) ≡ None → (q e ≡ false) × (find q es ≡ None)
 none_off q e es h =
     ⊎_elim
-    (λ is. let got = find_here q e es is in let z : ◌≡◌ {A = ℕ} 0 1 = cc in absurd (omega arith))
+    (λ is. absurd (none-some e (sym h ∙ find_here q e es is)))
     (λ off. (off, sym (find_past q e es off) ∙ h))
     (cases_Bool (q e))
 
 -- ---- one entry more
 -- the new entry, where there is no other
 abbrev pub or_new : (Entry → Bool) → Entry → Option Entry → Option Entry
-or_new q e None = cond (q e) (Some e) None
-or_new q e (Some f) = Some f
+or_new q e o = option_or o (cond (q e) (Some e) None)
 
-pub find-pushed : (q : Entry → Bool) (es : List Entry) (e : Entry) → find q (es ++ e ∷ []) ≡ or_new q e (find q es)
-find-pushed q [] e = refl
-find-pushed q (f ∷ es) e =
-    ⊎_elim
-    (λ is. find_here q f (es ++ e ∷ []) is ∙ sym (ap (or_new q e) (find_here q f es is)))
-    (λ off. find_past q f (es ++ e ∷ []) off ∙ find-pushed q es e ∙ sym (ap (or_new q e) (find_past q f es off)))
-    (cases_Bool (q f))
-
-clear-push : (clash : Entry → Entry → Bool) (f : Entry) (es : List Entry) (e : Entry) → clear_of clash f es ≡ true → clash f e ≡ false → clear_of clash f (es ++ e ∷ []) ≡ true
-clear-push clash f [] e h off = and_from (not (clash f e)) true (ap not off) refl
-clear-push clash f (g ∷ es) e h off =
-    let p = and_parts (not (clash f g)) (clear_of clash f es) h in
-    and_from (not (clash f g)) (clear_of clash f (es ++ e ∷ [])) p.0 (clear-push clash f es e p.1 off)
+list_all-push : (p : Entry → Bool) (es : List Entry) (e : Entry) → list_all p es ≡ true → p e ≡ true → list_all p (es ++ e ∷ []) ≡ true
+list_all-push p es e h is = list_all-append p es (e ∷ []) ∙ and_from (list_all p es) (p e && true) h (and_from (p e) true is refl)
 
 -- nothing clashes with e, and clashes go both ways
 pub apart-push : (clash : Entry → Entry → Bool) (es : List Entry) (e : Entry) → ((f : Entry) → clash f e ≡ clash e f) → apart clash es ≡ true → find (clash e) es ≡ None → apart clash (es ++ e ∷ []) ≡ true
@@ -42,41 +35,34 @@ apart-push clash [] e flip h none = refl
 apart-push clash (f ∷ es) e flip h none =
     let p = and_parts (clear_of clash f es) (apart clash es) h in
     let q = none_off (clash e) f es none in
-    and_from (clear_of clash f (es ++ e ∷ [])) (apart clash (es ++ e ∷ [])) (clear-push clash f es e p.0 (flip f ∙ q.0)) (apart-push clash es e flip p.1 q.1)
+    and_from (clear_of clash f (es ++ e ∷ [])) (apart clash (es ++ e ∷ [])) (list_all-push (λ g. not (clash f g)) es e p.0 (ap not (flip f ∙ q.0))) (apart-push clash es e flip p.1 q.1)
 
 pub bounded-push : (n : ℕ) (es : List Entry) (e : Entry) → bounded n es ≡ true → e.owner < 65536 → e.item < n → bounded n (es ++ e ∷ []) ≡ true
-bounded-push n [] e h o i = and_from (ltb e.owner 65536 && ltb e.item n) true (and_from (ltb e.owner 65536) (ltb e.item n) (lt-ltb e.owner 65536 o) (lt-ltb e.item n i)) refl
-bounded-push n (f ∷ es) e h o i =
-    let p = and_parts (ltb f.owner 65536 && ltb f.item n) (bounded n es) h in
-    and_from (ltb f.owner 65536 && ltb f.item n) (bounded n (es ++ e ∷ [])) p.0 (bounded-push n es e p.1 o i)
+bounded-push n es e h o i = list_all-push (in_bounds n) es e h (and_from (ltb e.owner 65536) (ltb e.item n) (lt-ltb e.owner 65536 o) (lt-ltb e.item n i))
 
 pub count-push : (t : ℕ) (es : List Entry) (e : Entry) → count_of t (es ++ e ∷ []) ≡ count_of t es + cond (owned t e) 1 0
-count-push t [] e = elim (owned t e) as (λ b. length (cond b (e ∷ []) []) ≡ 0 + cond b 1 0) [ true ↦ refl | false ↦ refl ]
-count-push t (f ∷ es) e =
-    let less = count-push t es e in
-    elim (owned t f) as (λ b. length (cond b (f ∷ filter (owned t) (es ++ e ∷ [])) (filter (owned t) (es ++ e ∷ []))) ≡ length (cond b (f ∷ filter (owned t) es) (filter (owned t) es)) + cond (owned t e) 1 0) [ true ↦ omega (arith, less) | false ↦ less ]
+count-push t es e =
+    ap length (filter-append (owned t) es (e ∷ []))
+    ∙ length-append (filter (owned t) es) (filter (owned t) (e ∷ []))
+    ∙ ap (λ (n : ℕ). count_of t es + n) (elim (owned t e) as (λ b. length (cond b (e ∷ []) []) ≡ cond b 1 0) [ true ↦ refl | false ↦ refl ])
 
 -- ---- a filter
-clear_kept : (clash : Entry → Entry → Bool) (q : Entry → Bool) (e : Entry) (es : List Entry) → clear_of clash e es ≡ true → clear_of clash e (filter q es) ≡ true
-clear_kept clash q e [] h = refl
-clear_kept clash q e (f ∷ es) h =
-    let p = and_parts (not (clash e f)) (clear_of clash e es) h in
-    let less = clear_kept clash q e es p.1 in
-    elim (q f) as (λ b. clear_of clash e (cond b (f ∷ filter q es) (filter q es)) ≡ true) [ true ↦ and_from (not (clash e f)) (clear_of clash e (filter q es)) p.0 less | false ↦ less ]
+list_all_kept : (p q : Entry → Bool) (es : List Entry) → list_all p es ≡ true → list_all p (filter q es) ≡ true
+list_all_kept p q [] h = refl
+list_all_kept p q (e ∷ es) h =
+    let r = and_parts (p e) (list_all p es) h in
+    let less = list_all_kept p q es r.1 in
+    elim (q e) as (λ b. list_all p (cond b (e ∷ filter q es) (filter q es)) ≡ true) [ true ↦ and_from (p e) (list_all p (filter q es)) r.0 less | false ↦ less ]
 
 pub apart_kept : (clash : Entry → Entry → Bool) (q : Entry → Bool) (es : List Entry) → apart clash es ≡ true → apart clash (filter q es) ≡ true
 apart_kept clash q [] h = refl
 apart_kept clash q (e ∷ es) h =
     let p = and_parts (clear_of clash e es) (apart clash es) h in
     let less = apart_kept clash q es p.1 in
-    elim (q e) as (λ b. apart clash (cond b (e ∷ filter q es) (filter q es)) ≡ true) [ true ↦ and_from (clear_of clash e (filter q es)) (apart clash (filter q es)) (clear_kept clash q e es p.0) less | false ↦ less ]
+    elim (q e) as (λ b. apart clash (cond b (e ∷ filter q es) (filter q es)) ≡ true) [ true ↦ and_from (clear_of clash e (filter q es)) (apart clash (filter q es)) (list_all_kept (λ f. not (clash e f)) q es p.0) less | false ↦ less ]
 
 pub bounded_kept : (n : ℕ) (q : Entry → Bool) (es : List Entry) → bounded n es ≡ true → bounded n (filter q es) ≡ true
-bounded_kept n q [] h = refl
-bounded_kept n q (e ∷ es) h =
-    let p = and_parts (ltb e.owner 65536 && ltb e.item n) (bounded n es) h in
-    let less = bounded_kept n q es p.1 in
-    elim (q e) as (λ b. bounded n (cond b (e ∷ filter q es) (filter q es)) ≡ true) [ true ↦ and_from (ltb e.owner 65536 && ltb e.item n) (bounded n (filter q es)) p.0 less | false ↦ less ]
+bounded_kept n q es h = list_all_kept (in_bounds n) q es h
 
 pub count_kept : (t : ℕ) (q : Entry → Bool) (es : List Entry) → count_of t (filter q es) ≤ count_of t es
 count_kept t q [] = omega arith

@@ -2,8 +2,10 @@
 use Rattle.std.proofs.Common.{◌≡◌, ℕ, zero, suc, ◌<◌, ◌≤◌, Bool, true, false, cond, not, ◌&&◌, eqb, List, [], ◌∷◌, ◌++◌, length, get_or, ℤ, Some, None, filter, Option, sym, refl, ap, ◌∙◌, ⊎_elim, arith, find}
 use mathlib.Core.Path.{fun_ext}
 use Rattle.std.proofs.lemmas.Bool.{and_parts, both_ways, cases_Bool, cond-false, eqb-true, not-true}
+use Rattle.std.proofs.lemmas.List.Folds.{find-append}
+use Rattle.std.proofs.lemmas.Option.{none-some}
 use Rattle.std.specs.Option.{option_map}
-use Rattle.store.proofs.Kept.{count-push, nat_eq_flip, find-pushed, or_new, pair_kept}
+use Rattle.store.proofs.Kept.{count-push, nat_eq_flip, or_new, pair_kept}
 use Rattle.store.specs.declared.table.Entry.{Entry}
 use Rattle.store.specs.Entries.{apart, blank, clear_of, count_of, entry, found, is_on, is_pair, others, owned, revalued, same_pair, value_of}
 use Rattle.store.specs.Finding.{find_here, find_past}
@@ -24,7 +26,7 @@ pub new_point : (q : Entry → Bool) (e : Entry) (o : Option Entry) → (q e ≡
 new_point q e None h = elim (q e) as (λ b. option_map value_of (cond b (Some e) None) ≡ cond b (Some e.value) None) [ true ↦ refl | false ↦ refl ]
 new_point q e (Some f) h =
     ⊎_elim
-    (λ is. let got : Some f ≡ None = h is in let z : ◌≡◌ {A = ℕ} 0 1 = cc in absurd (omega arith))
+    (λ is. absurd (none-some f (sym (h is))))
     (λ off. sym (cond-false (q e) (Some e.value) (Some f.value) off))
     (cases_Bool (q e))
 
@@ -32,7 +34,7 @@ pub found-pushed : (es : List Entry) (t i : ℕ) (v : ℤ) → find (is_pair t i
 found-pushed es t i v none =
     fun_ext (λ u. fun_ext (λ j.
     let e = entry t i v in
-    ap (option_map value_of) (find-pushed (is_pair u j) es e)
+    ap (option_map value_of) (find-append (is_pair u j) es (e ∷ []))
     ∙ new_point (is_pair u j) e (find (is_pair u j) es)
     (λ is.
     let p = and_parts (eqb t u) (eqb i j) is in
@@ -79,13 +81,6 @@ module _ (t i : ℕ) (v : ℤ) (u j : ℕ) where
 
 pub found-revalued : (es : List Entry) (k t i : ℕ) (v : ℤ) → k < length es → is_pair t i (get_or es k blank) ≡ true → apart same_pair es ≡ true → found (revalued es k v) ≡ written (found es) t i v
 found-revalued es k t i v lt is a = fun_ext (λ u. fun_ext (λ j. revalued_point t i v u j es k lt is a))
-
-pub unfound : (es : List Entry) (t i : ℕ) → found es t i ≡ None → find (is_pair t i) es ≡ None
-unfound es t i h = go (find (is_pair t i) es) h
-  where
-    go : (o : Option Entry) → option_map value_of o ≡ None → o ≡ None
-    go None x = refl
-    go (Some e) x = let z : ◌≡◌ {A = ℕ} 0 1 = cc in absurd (omega arith)
 
 -- one more of t's, of which there were fewer than 64
 pub shares-push : (es : List Entry) (t i : ℕ) (v : ℤ) → count_of t es < 64 → ((u : ℕ) → count_of u es ≤ 64) → (u : ℕ) {n : ℕ} → n ≡ count_of u (es ++ entry t i v ∷ []) → n ≤ 64

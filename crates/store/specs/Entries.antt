@@ -1,5 +1,6 @@
 -- The entries of a table, as a list.
 use Rattle.std.specs.Prelude.{ℕ, zero, suc, min, Bool, true, cond, not, ◌&&◌, List, [], ◌∷◌, length, ℤ, pos, filter, find, Option, ◌==◌, nat_lt, slice_set}
+use Rattle.std.specs.List.{list_all}
 use Rattle.std.specs.Option.{option_map}
 use Rattle.store.specs.declared.table.Entry.{Entry}
 use Rattle.store.specs.Meaning.{Writes}
@@ -50,8 +51,7 @@ landed t (e ∷ es) vs = landed t es (cond (owned t e) (slice_set vs e.item e.va
 
 -- no two entries clash
 abbrev pub clear_of : (Entry → Entry → Bool) → Entry → List Entry → Bool
-clear_of clash e [] = true
-clear_of clash e (f ∷ es) = not (clash e f) && clear_of clash e es
+clear_of clash e es = list_all (λ f. not (clash e f)) es
 
 abbrev pub apart : (Entry → Entry → Bool) → List Entry → Bool
 apart clash [] = true
@@ -64,9 +64,11 @@ abbrev pub same_pair : Entry → Entry → Bool
 same_pair e f = is_pair e.owner e.item f
 
 -- each owner is a number of 16 bits, and each item is below n
+abbrev pub in_bounds : ℕ → Entry → Bool
+in_bounds n e = nat_lt e.owner 65536 && nat_lt e.item n
+
 abbrev pub bounded : ℕ → List Entry → Bool
-bounded n [] = true
-bounded n (e ∷ es) = (nat_lt e.owner 65536 && nat_lt e.item n) && bounded n es
+bounded n es = list_all (in_bounds n) es
 
 -- how many items a slice has
 abbrev pub size_of : List ℤ → ℕ

@@ -3,6 +3,8 @@ use Rattle.std.specs.Prelude.{◌≡◌, ℕ, ◌+◌, ◌<◌, Bool, true, fals
 use Rattle.std.proofs.Common.{⊎_elim, ◌∙◌, ap, subst, sym, arith}
 use Rattle.std.proofs.Math.Path.{fun_ext}
 use Rattle.std.proofs.lemmas.Bool.{and_from, and_left, and_parts, and_right, cases_Bool, cond-false, cond-true, eq-eqb, eqb-false, eqb-true, false≢true, ltb-true, ne_eqb, not-true}
+use Rattle.std.proofs.lemmas.Option.{none-some}
+use Rattle.std.proofs.Math.Bool.{and-true}
 use Rattle.std.specs.Option.{option_map}
 use Rattle.store.specs.declared.table.Entry.{Entry}
 use Rattle.store.specs.Entries.{apart, bounded, clear_of, count_of, found, is_on, is_pair, owned, same_item, same_pair, value_of}
@@ -23,14 +25,11 @@ find-clear clash e (f ∷ es) h =
     let p = and_parts (not (clash e f)) (clear_of clash e es) h in
     find_past (clash e) f es (not-true (clash e f) p.0) ∙ find-clear clash e es p.1
 
-none≢some : (e : Entry) → None ≢ Some e
-none≢some e x = let z : ◌≡◌ {A = ℕ} 0 1 = cc in omega arith
-
 pub found_nothing : (es : List Entry) (t i : ℕ) → find (is_on i) es ≡ None → find (is_pair t i) es ≡ None
 found_nothing [] t i h = refl
 found_nothing (e ∷ es) t i h =
     ⊎_elim
-    (λ on. absurd (none≢some e (sym h ∙ find_here (is_on i) e es on)))
+    (λ on. absurd (none-some e (sym h ∙ find_here (is_on i) e es on)))
     (λ off. find_past (is_pair t i) e es (and_right (owned t e) (is_on i e) off) ∙ found_nothing es t i (sym (find_past (is_on i) e es off) ∙ h))
     (cases_Bool (is_on i e))
 
@@ -38,10 +37,6 @@ found_nothing (e ∷ es) t i h =
 abbrev pub mine : ℕ → Option Entry → Option Entry
 mine t None = None
 mine t (Some e) = cond (owned t e) (Some e) None
-
-and_true : (x : Bool) → (x && true) ≡ x
-and_true true = refl
-and_true false = refl
 
 -- where an item has one entry at most, that entry decides
 pub pair_by_item : (es : List Entry) (t i : ℕ) → apart same_item es ≡ true → find (is_pair t i) es ≡ mine t (find (is_on i) es)
@@ -53,7 +48,7 @@ pair_by_item (e ∷ es) t i h =
     let none : find (is_on i) es ≡ None = ap (λ (j : ℕ). find (is_on j) es) (sym (eqb-true e.item i on)) ∙ find-clear same_item e es p.0 in
     ap (λ (r : Option Entry). cond (owned t e && is_on i e) (Some e) r) (found_nothing es t i none)
     ∙ ap (λ (b : Bool). cond (owned t e && b) (Some e) None) on
-    ∙ ap (λ (b : Bool). cond b (Some e) None) (and_true (owned t e))
+    ∙ ap (λ (b : Bool). cond b (Some e) None) (and-true (owned t e))
     ∙ sym (ap (mine t) (find_here (is_on i) e es on)))
     (λ off. find_past (is_pair t i) e es (and_right (owned t e) (is_on i e) off) ∙ pair_by_item es t i p.1 ∙ sym (ap (mine t) (find_past (is_on i) e es off)))
     (cases_Bool (is_on i e))

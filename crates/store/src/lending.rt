@@ -4,6 +4,8 @@ ghost use Rattle.store.specs.Meaning.{nothing};
 ghost use Rattle.store.specs.Rehearsals.{accepted};
 ghost use Rattle.store.specs.Slices.{items};
 
+// Two functions, since one over any store would need a trait for the opening of a store, whose type has the loan's
+// lifetime in it, and its clause could not say what the slice holds after that lifetime.
 use crate::in_place::InPlace;
 use crate::private::Private;
 use crate::rehearsal::{Write, rehearse};

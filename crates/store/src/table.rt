@@ -20,7 +20,8 @@ pub(crate) const ROOM: usize = 512;
 /// How many values of a slice are items, at most.
 pub(crate) const ITEMS: usize = 1024;
 
-/// What a store keeps beside its slice.
+/// What a store keeps beside its slice. The slice itself is a field of each store: where it lies deeper in what is lent,
+/// the check does not know what it holds once the store is let go.
 #[derive(Drop)]
 pub(crate) struct Table {
     pub(crate) entries: ArrayVec<Entry, ROOM>,
