@@ -1,10 +1,10 @@
 // A store that writes into the caller's slice at once, and keeps what stood there before.
 ghost use Rattle.std.specs.Prelude.{◌≡◌, ◌≤◌, true, false, [], ◌∷◌};
 ghost use Rattle.store.specs.Entries.{apart, bounded, same_item, size_of};
-ghost use Rattle.store.specs.Meaning.{nothing};
-ghost use Rattle.store.specs.Slices.{committed_behind, in_place_slice, items, pending_in, rest};
+ghost use Rattle.store.specs.Slices.{committed_behind, in_place_slice, pending_in, rest};
 ghost use Rattle.store.specs.Soundness.{in_place_sound};
 
+use crate::on_slice::OnSlice;
 use crate::store::{Store, refusal};
 use crate::table::{ITEMS, ROOM, Table};
 use records::refusal::{Reason, Refusal};
@@ -17,35 +17,6 @@ pub struct InPlace<'a> {
     images: Table,
     ghost apart: { apart same_item images.entries.items ≡ true },
     ghost bounded: { bounded (size_of values.now) images.entries.items ≡ true },
-}
-
-impl<'a> InPlace<'a> {
-    /// Opens a store on a slice; the slice's values are the committed ones.
-    pub fn open(values: &'a mut [i32]) -> InPlace<'a>
-        ensures committed { ⟦<InPlace<'a> as Store>⟧.committed result ≡ items values.old }
-        ensures pending { ⟦<InPlace<'a> as Store>⟧.pending result ≡ nothing }
-        ensures outside { (⟦<InPlace<'a> as Store>⟧.place result).outside ≡ rest values.old }
-        ensures home { (⟦<InPlace<'a> as Store>⟧.place result).home ≡ values.entry.ghost_name ∷ [] }
-    {
-        let images = Table::new();
-        InPlace { values, images }
-    }
-
-    /// The slice as it stands: the committed values with all pending ones over them, and what are no items.
-    pub fn values(&self) -> &[i32]
-        ensures { result.now ≡ in_place_slice (⟦<InPlace<'a> as Store>⟧.committed self.now) (⟦<InPlace<'a> as Store>⟧.pending self.now) (⟦<InPlace<'a> as Store>⟧.place self.now).outside }
-    {
-        &*self.values
-    }
-
-    /// Ends the store and gives the slice back, pending values and all.
-    pub fn close(self) -> &'a mut [i32]
-        ensures slice { result.now ≡ in_place_slice (⟦<InPlace<'a> as Store>⟧.committed self.entry) (⟦<InPlace<'a> as Store>⟧.pending self.entry) (⟦<InPlace<'a> as Store>⟧.place self.entry).outside }
-        ensures home { (⟦<InPlace<'a> as Store>⟧.place self.entry).home ≡ result.ghost_name ∷ [] }
-    {
-        let values = self.values;
-        values
-    }
 }
 
 impl Store for InPlace<'_> {
@@ -138,4 +109,23 @@ impl Store for InPlace<'_> {
     }
 
     ghost sound = { λ s. in_place_sound s.images.entries.items s.values.now s.images.fits s.bounded s.apart };
+}
+
+impl<'a> OnSlice<'a> for InPlace<'a> {
+    // The committed values with all pending ones over them, and what are no items.
+    ghost holds = { in_place_slice };
+
+    fn open(values: &'a mut [i32]) -> InPlace<'a> {
+        let images = Table::new();
+        InPlace { values, images }
+    }
+
+    fn values(&self) -> &[i32] {
+        &*self.values
+    }
+
+    fn close(self) -> &'a mut [i32] {
+        let values = self.values;
+        values
+    }
 }

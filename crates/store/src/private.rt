@@ -1,10 +1,10 @@
 // A store that keeps pending writes in a workspace, and touches the caller's slice only when it publishes.
 ghost use Rattle.std.specs.Prelude.{◌≡◌, ℕ, ◌≤◌, true, [], ◌∷◌};
 ghost use Rattle.store.specs.Entries.{apart, bounded, count_of, found, same_pair, size_of};
-ghost use Rattle.store.specs.Meaning.{nothing};
 ghost use Rattle.store.specs.Slices.{items, private_slice, rest};
 ghost use Rattle.store.specs.Soundness.{private_sound};
 
+use crate::on_slice::OnSlice;
 use crate::store::{Store, refusal};
 use crate::table::{ITEMS, ROOM, Table};
 use records::refusal::{Reason, Refusal};
@@ -17,35 +17,6 @@ pub struct Private<'a> {
     ghost apart: { apart same_pair writes.entries.items ≡ true },
     ghost bounded: { bounded (size_of values.now) writes.entries.items ≡ true },
     ghost shares: { (t : ℕ) → count_of t writes.entries.items ≤ 64 },
-}
-
-impl<'a> Private<'a> {
-    /// Opens a store on a slice; the slice's values are the committed ones.
-    pub fn open(values: &'a mut [i32]) -> Private<'a>
-        ensures committed { ⟦<Private<'a> as Store>⟧.committed result ≡ items values.old }
-        ensures pending { ⟦<Private<'a> as Store>⟧.pending result ≡ nothing }
-        ensures outside { (⟦<Private<'a> as Store>⟧.place result).outside ≡ rest values.old }
-        ensures home { (⟦<Private<'a> as Store>⟧.place result).home ≡ values.entry.ghost_name ∷ [] }
-    {
-        let writes = Table::new();
-        Private { values, writes }
-    }
-
-    /// The slice as it stands: the committed values, and what are no items.
-    pub fn values(&self) -> &[i32]
-        ensures { result.now ≡ private_slice (⟦<Private<'a> as Store>⟧.committed self.now) (⟦<Private<'a> as Store>⟧.place self.now).outside }
-    {
-        &*self.values
-    }
-
-    /// Ends the store and gives the slice back; pending writes are lost.
-    pub fn close(self) -> &'a mut [i32]
-        ensures slice { result.now ≡ private_slice (⟦<Private<'a> as Store>⟧.committed self.entry) (⟦<Private<'a> as Store>⟧.place self.entry).outside }
-        ensures home { (⟦<Private<'a> as Store>⟧.place self.entry).home ≡ result.ghost_name ∷ [] }
-    {
-        let values = self.values;
-        values
-    }
 }
 
 impl Store for Private<'_> {
@@ -128,4 +99,23 @@ impl Store for Private<'_> {
     }
 
     ghost sound = { λ s. private_sound s.writes.entries.items s.values.now s.writes.fits s.bounded s.apart s.shares };
+}
+
+impl<'a> OnSlice<'a> for Private<'a> {
+    // The committed values, and what are no items.
+    ghost holds = { λ cs _ outside. private_slice cs outside };
+
+    fn open(values: &'a mut [i32]) -> Private<'a> {
+        let writes = Table::new();
+        Private { values, writes }
+    }
+
+    fn values(&self) -> &[i32] {
+        &*self.values
+    }
+
+    fn close(self) -> &'a mut [i32] {
+        let values = self.values;
+        values
+    }
 }

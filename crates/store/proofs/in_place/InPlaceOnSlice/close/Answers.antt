@@ -1,4 +1,4 @@
-use Rattle.store.proofs.in_place.InPlace.close.Goals as goal
+use Rattle.store.proofs.in_place.InPlaceOnSlice.close.Goals as goal
 use Rattle.store.proofs.Overlaid.{slice_holds}
 
 pub returns-clause-slice : goal.returns-clause-slice

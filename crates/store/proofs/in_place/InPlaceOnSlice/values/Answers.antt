@@ -1,4 +1,4 @@
-use Rattle.store.proofs.in_place.InPlace.values.Goals as goal
+use Rattle.store.proofs.in_place.InPlaceOnSlice.values.Goals as goal
 use Rattle.store.proofs.Overlaid.{slice_holds}
 
 pub returns : goal.returns
