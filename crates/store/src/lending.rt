@@ -10,7 +10,11 @@ use crate::private::Private;
 use crate::rehearsal::{Write, rehearse};
 
 /// Rehearses writes in a store on the slice, and gives the slice back as it was.
-pub fn rehearse_on<'a, S: OnSlice<'a>>(values: &'a mut [i32], t: u16, writes: &[Write]) -> (usize, &'a mut [i32])
+pub fn rehearse_on<'a, S: OnSlice<'a>>(
+    values: &'a mut [i32],
+    t: u16,
+    writes: &[Write],
+) -> (usize, &'a mut [i32])
     ensures accepted { result.0 ≡ accepted S.private S.room S.share (items values.old) nothing t writes.now }
     ensures slice { result.1.now ≡ values.old }
     ensures home { result.1.ghost_name ≡ values.entry.ghost_name }

@@ -38,6 +38,7 @@ impl Store for Private<'_> {
 
     ghost place = { λ s. record { home = s.values.ghost_name ∷ []; outside = rest s.values.now } };
 
+    // The functions down to `held` are a line each in both stores, so nothing shared would be shorter.
     fn capacity() -> usize
         ensures { result ≡ 512 }
     {

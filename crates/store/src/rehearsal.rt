@@ -23,7 +23,7 @@ pub fn rehearse<S: Store>(store: &mut S, t: u16, writes: &[Write]) -> usize
     ensures own { (i : ℕ) → S.pending store.old t i ≡ None → looked (S.committed store.new) (S.pending store.new) t i ≡ looked (S.committed store.old) (S.pending store.old) t i }
     ensures place { S.place store.new ≡ S.place store.old }
 {
-    // A closure that puts would change the store, and of what such a closure did a proof knows nothing afterwards.
+    // No chain: of a store that a closure changed, a proof knows nothing afterwards.
     let mut count = 0;
     for w in writes {
         if store.put(t, w.item, w.value).is_ok() {

@@ -1,4 +1,4 @@
-use Rattle.std.proofs.Common.{ap, ◌∙◌}
+use Rattle.std.proofs.Common.{ap}
 use Rattle.store.proofs.lending.rehearse_on.Goals as goal
 use Rattle.store.specs.Meaning.{Place, Writes}
 
@@ -8,4 +8,4 @@ returns-clause-slice g c =
     let did = c.rehearse-count.ensures in
     let outside = ap (λ (p : Place). p.outside) did.place in
     let pending = did.untouched (λ i. ap (λ (p : Writes). p c.args.t i) was.pending) in
-    c.close.ensures.slice ∙ rw (did.committed, pending, outside) was.slice
+    rw (c.close.ensures.slice, did.committed, pending, outside) was.slice
