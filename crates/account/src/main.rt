@@ -13,6 +13,7 @@ use scheduler::rule::{DeferredUpdates, WritersPassReaders};
 use std::io::Read;
 use std::{env, io};
 use store::in_place::InPlace;
+use store::on_slice::OnSlice;
 use store::private::Private;
 
 /// What the program is asked to tell.

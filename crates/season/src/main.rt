@@ -12,6 +12,7 @@ use scheduler::rule::{LockRule, WritersPassReaders};
 use scheduler::scheduler::Scheduler;
 use std::io;
 use store::in_place::InPlace;
+use store::on_slice::OnSlice;
 use store::store::Store;
 
 /// The item that holds the team's total.

@@ -8,6 +8,7 @@ use cases::starting_values;
 use scheduler::rule::{DeferredUpdates, WritersPassReaders};
 use std::alloc::{AllocError, Global};
 use store::in_place::InPlace;
+use store::on_slice::OnSlice;
 use store::private::Private;
 
 /// Serves an input over 1,024 zeros that are written in place; writers pass readers and exclude each other.

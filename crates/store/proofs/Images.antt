@@ -1,14 +1,16 @@
 -- What the calls of an in-place store do to its meaning.
-use Rattle.std.proofs.Common.{◌≡◌, ℕ, ◌<◌, Bool, true, false, cond, ◌&&◌, eqb, List, [], ◌∷◌, ◌++◌, length, get_or, set, ℤ, pos, Some, None, filter, Option, unwrap_or, sym, refl, ap, ◌∙◌, ⊎_elim, arith}
+use Rattle.std.proofs.Common.{◌≡◌, ℕ, ◌<◌, Bool, true, false, cond, ◌&&◌, eqb, List, [], ◌∷◌, ◌++◌, length, get_or, set, ℤ, pos, Some, None, filter, Option, unwrap_or, sym, refl, ap, ◌∙◌, ⊎_elim, arith, find}
 use mathlib.Core.Path.{fun_ext}
 use Rattle.std.proofs.lemmas.List.{ext_get_or, get_or-set_other, get_or-set_same, length-set}
 use Rattle.std.proofs.lemmas.Bool.{and_right, cases_Bool, cases_eq, cond-false, cond-true, eq-eqb, eqb-false, eqb-true, ne_eqb}
+use Rattle.std.proofs.Math.Bool.{and-true}
+use Rattle.std.proofs.lemmas.List.Folds.{find-append}
 use Rattle.std.specs.Option.{option_map}
-use Rattle.store.proofs.Kept.{first-pushed, on_kept, or_new, pair_kept, spare}
+use Rattle.store.proofs.Kept.{on_kept, or_new, pair_kept, spare}
 use Rattle.store.proofs.Landing.{get_or-items, landed_at, length_items, length-landed}
 use Rattle.store.proofs.Workspace.{pair_flip}
 use Rattle.store.specs.declared.table.Entry.{Entry}
-use Rattle.store.specs.Entries.{apart, bounded, entry, first, image, is_on, is_pair, landed, others, owned, same_item, size_of, value_of}
+use Rattle.store.specs.Entries.{apart, bounded, entry, image, is_on, is_pair, landed, others, owned, same_item, size_of, value_of}
 use Rattle.store.specs.Finding.{apart-pair, found_nothing, mine, pair_by_item}
 use Rattle.store.specs.Laid.{get_or-laid, length-laid}
 use Rattle.store.specs.Meaning.{laid, without, written}
@@ -24,10 +26,10 @@ told x o = option_map (λ _. x) (option_map value_of o)
 pub length_behind : (es : List Entry) (vs : List ℤ) → length (committed_behind es vs) ≡ size_of vs
 length_behind es vs = length-laid (image es) (items vs) ∙ length_items vs
 
-pub behind_at : (es : List Entry) (vs : List ℤ) (i : ℕ) → i < size_of vs → get_or (committed_behind es vs) i (pos 0) ≡ behind (get_or vs i (pos 0)) (first (is_on i) es)
-behind_at es vs i lt = get_or-laid (image es) (items vs) i (omega (arith, length_items vs)) ∙ ap (λ (x : ℤ). behind x (first (is_on i) es)) (get_or-items vs i lt)
+pub behind_at : (es : List Entry) (vs : List ℤ) (i : ℕ) → i < size_of vs → get_or (committed_behind es vs) i (pos 0) ≡ behind (get_or vs i (pos 0)) (find (is_on i) es)
+behind_at es vs i lt = get_or-laid (image es) (items vs) i (omega (arith, length_items vs)) ∙ ap (λ (x : ℤ). behind x (find (is_on i) es)) (get_or-items vs i lt)
 
-same_behind : (es fs : List Entry) (vs ws : List ℤ) → length ws ≡ length vs → ((i : ℕ) → i < size_of vs → behind (get_or ws i (pos 0)) (first (is_on i) fs) ≡ behind (get_or vs i (pos 0)) (first (is_on i) es)) → committed_behind fs ws ≡ committed_behind es vs
+same_behind : (es fs : List Entry) (vs ws : List ℤ) → length ws ≡ length vs → ((i : ℕ) → i < size_of vs → behind (get_or ws i (pos 0)) (find (is_on i) fs) ≡ behind (get_or vs i (pos 0)) (find (is_on i) es)) → committed_behind fs ws ≡ committed_behind es vs
 same_behind es fs vs ws long each =
     ext_get_or (pos 0) (committed_behind fs ws) (committed_behind es vs)
     (omega (arith, length_behind fs ws, length_behind es vs))
@@ -49,7 +51,7 @@ publish_behind es vs t a =
     (λ i lt.
     let lt' : i < size_of vs = omega (arith, length_behind fs vs) in
     let x = get_or vs i (pos 0) in
-    let o = first (is_on i) es in
+    let o = find (is_on i) es in
     behind_at fs vs i lt'
     ∙ ap (behind x) (on_kept es t i a)
     ∙ publish_point t o x
@@ -62,11 +64,11 @@ told-cond x true o = refl
 told-cond x false o = refl
 
 pub publish-pending : (es : List Entry) (vs : List ℤ) (t : ℕ) → pending_in (filter (others t) es) vs ≡ without (pending_in es vs) t
-publish-pending es vs t = fun_ext (λ u. fun_ext (λ i. ap (told (get_or vs i (pos 0))) (pair_kept es t u i) ∙ told-cond (get_or vs i (pos 0)) (eqb u t) (first (is_pair u i) es)))
+publish-pending es vs t = fun_ext (λ u. fun_ext (λ i. ap (told (get_or vs i (pos 0))) (pair_kept es t u i) ∙ told-cond (get_or vs i (pos 0)) (eqb u t) (find (is_pair u i) es)))
 
 -- ---- discard
 module _ (es : List Entry) (vs : List ℤ) (t : ℕ) (low : bounded (size_of vs) es ≡ true) (a : apart same_item es ≡ true) where
-  back_at : (i : ℕ) → get_or (landed t es vs) i (pos 0) ≡ behind (get_or vs i (pos 0)) (mine t (first (is_on i) es))
+  back_at : (i : ℕ) → get_or (landed t es vs) i (pos 0) ≡ behind (get_or vs i (pos 0)) (mine t (find (is_on i) es))
   back_at i = landed_at (size_of vs) t es vs (omega arith) low (apart-pair es a) i ∙ ap (behind (get_or vs i (pos 0))) (pair_by_item es t i a)
 
   discard_point : (o : Option Entry) (x : ℤ) → behind (behind x (mine t o)) (spare t o) ≡ behind x o
@@ -77,7 +79,7 @@ module _ (es : List Entry) (vs : List ℤ) (t : ℕ) (low : bounded (size_of vs)
   discard_behind =
       same_behind es (filter (others t) es) vs (landed t es vs) (length-landed t es vs)
       (λ i lt.
-      let o = first (is_on i) es in
+      let o = find (is_on i) es in
       ap (behind (get_or (landed t es vs) i (pos 0))) (on_kept es t i a)
       ∙ ap (λ (y : ℤ). behind y (spare t o)) (back_at i)
       ∙ discard_point o (get_or vs i (pos 0)))
@@ -95,7 +97,7 @@ module _ (es : List Entry) (vs : List ℤ) (t : ℕ) (low : bounded (size_of vs)
       fun_ext (λ u. fun_ext (λ i.
       let x = get_or vs i (pos 0) in
       let y = get_or (landed t es vs) i (pos 0) in
-      let p = first (is_pair u i) es in
+      let p = find (is_pair u i) es in
       ap (told y) (pair_kept es t u i)
       ∙ told-cond y (eqb u t) p
       ∙ ⊎_elim
@@ -103,8 +105,8 @@ module _ (es : List Entry) (vs : List ℤ) (t : ℕ) (low : bounded (size_of vs)
       (λ differ.
       ap (λ (r : Option ℤ). cond (eqb u t) None r)
       (ap (λ (z : ℤ). told z p) (back_at i)
-      ∙ ap (told (behind x (mine t (first (is_on i) es)))) (pair_by_item es u i a)
-      ∙ other_point u (first (is_on i) es) x (eqb-false u t differ)
+      ∙ ap (told (behind x (mine t (find (is_on i) es)))) (pair_by_item es u i a)
+      ∙ other_point u (find (is_on i) es) x (eqb-false u t differ)
       ∙ sym (ap (told x) (pair_by_item es u i a))))
       (cases_Bool (eqb u t))))
 
@@ -120,16 +122,16 @@ module _ (es : List Entry) (vs : List ℤ) (t i : ℕ) (v : ℤ) (in' : i < size
   still_there j ne = get_or-set_other vs i j v (pos 0) ne
 
   -- the item has t's before-image
-  module _ (e : Entry) (has : first (is_on i) es ≡ Some e) (own : owned t e ≡ true) (a : apart same_item es ≡ true) where
+  module _ (e : Entry) (has : find (is_on i) es ≡ Some e) (own : owned t e ≡ true) (a : apart same_item es ≡ true) where
     pub again_behind : committed_behind es ws ≡ committed_behind es vs
     again_behind =
         same_behind es es vs ws (length-set vs i v)
         (λ j lt.
         ⊎_elim
         (λ same.
-        let on : first (is_on j) es ≡ Some e = ap (λ (k : ℕ). first (is_on k) es) same ∙ has in
+        let on : find (is_on j) es ≡ Some e = ap (λ (k : ℕ). find (is_on k) es) same ∙ has in
         ap (behind (get_or ws j (pos 0))) on ∙ sym (ap (behind (get_or vs j (pos 0))) on))
-        (λ ne. ap (λ (x : ℤ). behind x (first (is_on j) es)) (still_there j ne))
+        (λ ne. ap (λ (x : ℤ). behind x (find (is_on j) es)) (still_there j ne))
         (cases_eq j i))
 
     own_point : (u : ℕ) (x : ℤ) → told v (mine u (Some e)) ≡ cond (eqb u t) (Some v) (told x (mine u (Some e)))
@@ -145,11 +147,11 @@ module _ (es : List Entry) (vs : List ℤ) (t i : ℕ) (v : ℤ) (in' : i < size
     again_pending =
         fun_ext (λ u. fun_ext (λ j.
         let x = get_or vs j (pos 0) in
-        let p = first (is_pair u j) es in
+        let p = find (is_pair u j) es in
         ⊎_elim
         (λ same.
-        let on : p ≡ mine u (Some e) = pair_by_item es u j a ∙ ap (mine u) (ap (λ (k : ℕ). first (is_on k) es) same ∙ has) in
-        let both : (eqb u t && eqb j i) ≡ eqb u t = ap (λ (b : Bool). eqb u t && b) (eq-eqb j i same) ∙ and_true (eqb u t) in
+        let on : p ≡ mine u (Some e) = pair_by_item es u j a ∙ ap (mine u) (ap (λ (k : ℕ). find (is_on k) es) same ∙ has) in
+        let both : (eqb u t && eqb j i) ≡ eqb u t = ap (λ (b : Bool). eqb u t && b) (eq-eqb j i same) ∙ and-true (eqb u t) in
         ap (λ (y : ℤ). told y p) (now_there j same)
         ∙ ap (told v) on
         ∙ own_point u x
@@ -157,13 +159,9 @@ module _ (es : List Entry) (vs : List ℤ) (t i : ℕ) (v : ℤ) (in' : i < size
         ∙ sym (ap (λ (b : Bool). cond b (Some v) (told x p)) both))
         (λ ne. ap (λ (y : ℤ). told y p) (still_there j ne) ∙ sym (cond-false (eqb u t && eqb j i) (Some v) (told x p) (and_right (eqb u t) (eqb j i) (ne_eqb j i ne))))
         (cases_eq j i)))
-      where
-        and_true : (x : Bool) → (x && true) ≡ x
-        and_true true = refl
-        and_true false = refl
 
   -- the item has none
-  module _ (none : first (is_on i) es ≡ None) where
+  module _ (none : find (is_on i) es ≡ None) where
     abbrev new : Entry
     new = entry t i (get_or vs i (pos 0))
 
@@ -178,11 +176,11 @@ module _ (es : List Entry) (vs : List ℤ) (t i : ℕ) (v : ℤ) (in' : i < size
     first_behind =
         same_behind es fs vs ws (length-set vs i v)
         (λ j lt.
-        let o = first (is_on j) es in
-        ap (behind (get_or ws j (pos 0))) (first-pushed (is_on j) es new)
+        let o = find (is_on j) es in
+        ap (behind (get_or ws j (pos 0))) (find-append (is_on j) es (new ∷ []))
         ∙ ⊎_elim
         (λ same.
-        let none' : o ≡ None = ap (λ (k : ℕ). first (is_on k) es) same ∙ none in
+        let none' : o ≡ None = ap (λ (k : ℕ). find (is_on k) es) same ∙ none in
         ap (λ (q : Option Entry). behind (get_or ws j (pos 0)) (or_new (is_on j) new q)) none'
         ∙ ap (behind (get_or ws j (pos 0))) (cond-true (is_on j new) (Some new) None (eq-eqb i j (sym same)))
         ∙ ap (λ (k : ℕ). get_or vs k (pos 0)) (sym same)
@@ -200,11 +198,11 @@ module _ (es : List Entry) (vs : List ℤ) (t i : ℕ) (v : ℤ) (in' : i < size
     first-pending =
         fun_ext (λ u. fun_ext (λ j.
         let x = get_or vs j (pos 0) in
-        let p = first (is_pair u j) es in
-        ap (told (get_or ws j (pos 0))) (first-pushed (is_pair u j) es new)
+        let p = find (is_pair u j) es in
+        ap (told (get_or ws j (pos 0))) (find-append (is_pair u j) es (new ∷ []))
         ∙ ⊎_elim
         (λ same.
-        let none' : p ≡ None = found_nothing es u j (ap (λ (k : ℕ). first (is_on k) es) same ∙ none) in
+        let none' : p ≡ None = found_nothing es u j (ap (λ (k : ℕ). find (is_on k) es) same ∙ none) in
         ap (λ (y : ℤ). told y (or_new (is_pair u j) new p)) (now_there j same)
         ∙ ap (λ (q : Option Entry). told v (or_new (is_pair u j) new q)) none'
         ∙ new_told (is_pair u j new)

@@ -1,11 +1,11 @@
 -- What is in the slice after a transaction's entries have landed there.
-use Rattle.std.proofs.Common.{◌≡◌, ℕ, ◌<◌, ◌≤◌, true, false, cond, ◌&&◌, ltb, List, [], ◌∷◌, length, get_or, set, ℤ, pos, None, Option, unwrap_or, sym, refl, ap, ◌∙◌, subst, ⊎_elim, arith}
+use Rattle.std.proofs.Common.{◌≡◌, ℕ, ◌<◌, ◌≤◌, true, false, cond, ◌&&◌, ltb, List, [], ◌∷◌, length, get_or, set, ℤ, pos, None, Option, unwrap_or, sym, refl, ap, ◌∙◌, subst, ⊎_elim, arith, find}
 use Rattle.std.proofs.lemmas.List.{drop-set-lt, ext_get_or, get_or-set_other, get_or-set_same, get_or-take, length-set, length-take}
 use Rattle.std.proofs.lemmas.Bool.{and_from, and_left, and_parts, and_right, cases_Bool, cond-false, cond-true, eqb-false, eqb-true, lt-ltb}
 use Rattle.std.specs.Option.{option_map}
 use Rattle.store.specs.declared.table.Entry.{Entry}
-use Rattle.store.specs.Entries.{apart, bounded, clear_of, first, found, is_on, is_pair, landed, owned, same_pair, size_of, value_of}
-use Rattle.store.specs.Finding.{bounded_parts, first-clear, first_here, first_past}
+use Rattle.store.specs.Entries.{apart, bounded, clear_of, found, is_on, is_pair, landed, owned, same_pair, size_of, value_of}
+use Rattle.store.specs.Finding.{bounded_parts, find-clear, find_here, find_past}
 use Rattle.store.specs.Laid.{get_or-laid, length-laid}
 use Rattle.store.specs.Meaning.{laid}
 use Rattle.store.specs.Slices.{items, rest}
@@ -21,6 +21,9 @@ length-landed t [] vs = refl
 length-landed t (e ∷ es) vs =
     length-landed t es (cond (owned t e) (set vs e.item e.value) vs)
     ∙ elim (owned t e) as (λ b. length (cond b (set vs e.item e.value) vs) ≡ length vs) [ true ↦ length-set vs e.item e.value | false ↦ refl ]
+
+pub size_of-landed : (t : ℕ) (es : List Entry) (vs : List ℤ) → size_of (landed t es vs) ≡ size_of vs
+size_of-landed t es vs = omega (arith, length-landed t es vs)
 
 pub rest-landed : (n t : ℕ) (es : List Entry) (vs : List ℤ) → n ≤ 1024 → bounded n es ≡ true → rest (landed t es vs) ≡ rest vs
 rest-landed n t [] vs le b = refl
@@ -45,18 +48,18 @@ landed_at n t (e ∷ es) vs le b a i =
     ∙ ⊎_elim
     (λ on.
     let same : e.item ≡ i = eqb-true e.item i on in
-    let none : first (is_pair t i) es ≡ None = ap (λ (u : ℕ). first (is_pair u i) es) (sym (eqb-true e.owner t own)) ∙ ap (λ (j : ℕ). first (is_pair e.owner j) es) (sym same) ∙ first-clear same_pair e es q.0 in
+    let none : find (is_pair t i) es ≡ None = ap (λ (u : ℕ). find (is_pair u i) es) (sym (eqb-true e.owner t own)) ∙ ap (λ (j : ℕ). find (is_pair e.owner j) es) (sym same) ∙ find-clear same_pair e es q.0 in
     ap (or_else (get_or ws i (pos 0))) none
     ∙ subst (λ (j : ℕ). get_or ws j (pos 0) ≡ e.value) same (get_or-set_same vs e.item e.value (pos 0) (omega arith))
-    ∙ sym (ap (or_else (get_or vs i (pos 0))) (first_here (is_pair t i) e es (and_from (owned t e) (is_on i e) own on))))
+    ∙ sym (ap (or_else (get_or vs i (pos 0))) (find_here (is_pair t i) e es (and_from (owned t e) (is_on i e) own on))))
     (λ off.
     ap (λ (x : ℤ). unwrap_or (found es t i) x) (get_or-set_other vs e.item i e.value (pos 0) (λ x. eqb-false e.item i off (sym x)))
-    ∙ sym (ap (or_else (get_or vs i (pos 0))) (first_past (is_pair t i) e es (and_right (owned t e) (is_on i e) off))))
+    ∙ sym (ap (or_else (get_or vs i (pos 0))) (find_past (is_pair t i) e es (and_right (owned t e) (is_on i e) off))))
     (cases_Bool (is_on i e)))
     (λ foreign.
     ap (λ (l : List ℤ). get_or (landed t es l) i (pos 0)) (cond-false (owned t e) (set vs e.item e.value) vs foreign)
     ∙ landed_at n t es vs le p.2 q.1 i
-    ∙ sym (ap (or_else (get_or vs i (pos 0))) (first_past (is_pair t i) e es (and_left (owned t e) (is_on i e) foreign))))
+    ∙ sym (ap (or_else (get_or vs i (pos 0))) (find_past (is_pair t i) e es (and_left (owned t e) (is_on i e) foreign))))
     (cases_Bool (owned t e))
 
 pub length_items : (vs : List ℤ) → length (items vs) ≡ size_of vs

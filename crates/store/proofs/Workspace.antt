@@ -1,12 +1,14 @@
 -- What the calls of a private store do to the pending writes.
-use Rattle.std.proofs.Common.{◌≡◌, ℕ, zero, suc, ◌<◌, ◌≤◌, Bool, true, false, cond, not, ◌&&◌, eqb, List, [], ◌∷◌, ◌++◌, length, get_or, ℤ, Some, None, filter, Option, sym, refl, ap, ◌∙◌, ⊎_elim, arith}
+use Rattle.std.proofs.Common.{◌≡◌, ℕ, zero, suc, ◌<◌, ◌≤◌, Bool, true, false, cond, not, ◌&&◌, eqb, List, [], ◌∷◌, ◌++◌, length, get_or, ℤ, Some, None, filter, Option, sym, refl, ap, ◌∙◌, ⊎_elim, arith, find}
 use mathlib.Core.Path.{fun_ext}
 use Rattle.std.proofs.lemmas.Bool.{and_parts, both_ways, cases_Bool, cond-false, eqb-true, not-true}
+use Rattle.std.proofs.lemmas.List.Folds.{find-append}
+use Rattle.std.proofs.lemmas.Option.{none-some}
 use Rattle.std.specs.Option.{option_map}
-use Rattle.store.proofs.Kept.{count-push, nat_eq_flip, first-pushed, or_new, pair_kept}
+use Rattle.store.proofs.Kept.{count-push, nat_eq_flip, or_new, pair_kept}
 use Rattle.store.specs.declared.table.Entry.{Entry}
-use Rattle.store.specs.Entries.{apart, blank, clear_of, count_of, entry, first, found, is_on, is_pair, others, owned, revalued, same_pair, value_of}
-use Rattle.store.specs.Finding.{first_here, first_past}
+use Rattle.store.specs.Entries.{apart, blank, clear_of, count_of, entry, found, is_on, is_pair, others, owned, revalued, same_pair, value_of}
+use Rattle.store.specs.Finding.{find_here, find_past}
 use Rattle.store.specs.Meaning.{without, written}
 
 mapped_cond : (f : Entry → ℤ) (b : Bool) (o : Option Entry) → option_map f (cond b None o) ≡ cond b None (option_map f o)
@@ -14,7 +16,7 @@ mapped_cond f true o = refl
 mapped_cond f false o = refl
 
 pub found_kept : (es : List Entry) (t : ℕ) → found (filter (others t) es) ≡ without (found es) t
-found_kept es t = fun_ext (λ u. fun_ext (λ i. ap (option_map value_of) (pair_kept es t u i) ∙ mapped_cond value_of (eqb u t) (first (is_pair u i) es)))
+found_kept es t = fun_ext (λ u. fun_ext (λ i. ap (option_map value_of) (pair_kept es t u i) ∙ mapped_cond value_of (eqb u t) (find (is_pair u i) es)))
 
 -- the pair of u and j is that of t and i
 pub pair_flip : (t i u j : ℕ) → (eqb t u && eqb i j) ≡ (eqb u t && eqb j i)
@@ -24,19 +26,19 @@ pub new_point : (q : Entry → Bool) (e : Entry) (o : Option Entry) → (q e ≡
 new_point q e None h = elim (q e) as (λ b. option_map value_of (cond b (Some e) None) ≡ cond b (Some e.value) None) [ true ↦ refl | false ↦ refl ]
 new_point q e (Some f) h =
     ⊎_elim
-    (λ is. let got : Some f ≡ None = h is in let z : ◌≡◌ {A = ℕ} 0 1 = cc in absurd (omega arith))
+    (λ is. absurd (none-some f (sym (h is))))
     (λ off. sym (cond-false (q e) (Some e.value) (Some f.value) off))
     (cases_Bool (q e))
 
-pub found-pushed : (es : List Entry) (t i : ℕ) (v : ℤ) → first (is_pair t i) es ≡ None → found (es ++ entry t i v ∷ []) ≡ written (found es) t i v
+pub found-pushed : (es : List Entry) (t i : ℕ) (v : ℤ) → find (is_pair t i) es ≡ None → found (es ++ entry t i v ∷ []) ≡ written (found es) t i v
 found-pushed es t i v none =
     fun_ext (λ u. fun_ext (λ j.
     let e = entry t i v in
-    ap (option_map value_of) (first-pushed (is_pair u j) es e)
-    ∙ new_point (is_pair u j) e (first (is_pair u j) es)
+    ap (option_map value_of) (find-append (is_pair u j) es (e ∷ []))
+    ∙ new_point (is_pair u j) e (find (is_pair u j) es)
     (λ is.
     let p = and_parts (eqb t u) (eqb i j) is in
-    ap (λ (w : ℕ). first (is_pair w j) es) (sym (eqb-true t u p.0)) ∙ ap (λ (k : ℕ). first (is_pair t k) es) (sym (eqb-true i j p.1)) ∙ none)
+    ap (λ (w : ℕ). find (is_pair w j) es) (sym (eqb-true t u p.0)) ∙ ap (λ (k : ℕ). find (is_pair t k) es) (sym (eqb-true i j p.1)) ∙ none)
     ∙ ap (λ (b : Bool). cond b (Some v) (found es u j)) (pair_flip t i u j)))
 
 clear_at : (e : Entry) (es : List Entry) (k : ℕ) → clear_of same_pair e es ≡ true → k < length es → same_pair e (get_or es k blank) ≡ false
@@ -52,7 +54,7 @@ module _ (t i : ℕ) (v : ℤ) (u j : ℕ) where
   here_point e es is =
       let p = and_parts (owned t e) (is_on i e) is in
       let same : is_pair u j e ≡ (eqb u t && eqb j i) = ap (λ (o : ℕ). eqb o u && eqb e.item j) (eqb-true e.owner t p.0) ∙ ap (λ (k : ℕ). eqb t u && eqb k j) (eqb-true e.item i p.1) ∙ pair_flip t i u j in
-      elim (is_pair u j e) as (λ b. option_map value_of (cond b (Some (entry e.owner e.item v)) (first (is_pair u j) es)) ≡ cond b (Some v) (option_map value_of (cond b (Some e) (first (is_pair u j) es)))) [ true ↦ refl | false ↦ refl ]
+      elim (is_pair u j e) as (λ b. option_map value_of (cond b (Some (entry e.owner e.item v)) (find (is_pair u j) es)) ≡ cond b (Some v) (option_map value_of (cond b (Some e) (find (is_pair u j) es)))) [ true ↦ refl | false ↦ refl ]
       ∙ ap (λ (b : Bool). cond b (Some v) (found (e ∷ es) u j)) same
 
   pub revalued_point : (es : List Entry) (k : ℕ) → k < length es → is_pair t i (get_or es k blank) ≡ true → apart same_pair es ≡ true → found (revalued es k v) u j ≡ after (found es u j)
@@ -68,24 +70,17 @@ module _ (t i : ℕ) (v : ℤ) (u j : ℕ) where
       let o : e.owner ≡ t = eqb-true e.owner u h.0 ∙ eqb-true u t m.0 in
       let n : e.item ≡ i = eqb-true e.item j h.1 ∙ eqb-true j i m.1 in
       both_ways (same_pair e (get_or es k blank)) (clear_at e es k p.0 (omega arith)) (ap (λ (w : ℕ). is_pair w e.item (get_or es k blank)) o ∙ ap (λ (w : ℕ). is_pair t w (get_or es k blank)) n ∙ is) in
-      ap (option_map value_of) (first_here (is_pair u j) e (revalued es k v) hit)
+      ap (option_map value_of) (find_here (is_pair u j) e (revalued es k v) hit)
       ∙ ⊎_elim (λ x. absurd (not-it x)) (λ off. sym (cond-false (eqb u t && eqb j i) (Some v) (Some e.value) off)) (cases_Bool (eqb u t && eqb j i))
-      ∙ sym (ap after (ap (option_map value_of) (first_here (is_pair u j) e es hit))))
+      ∙ sym (ap after (ap (option_map value_of) (find_here (is_pair u j) e es hit))))
       (λ miss.
-      ap (option_map value_of) (first_past (is_pair u j) e (revalued es k v) miss)
+      ap (option_map value_of) (find_past (is_pair u j) e (revalued es k v) miss)
       ∙ revalued_point es k (omega arith) is p.1
-      ∙ sym (ap after (ap (option_map value_of) (first_past (is_pair u j) e es miss))))
+      ∙ sym (ap after (ap (option_map value_of) (find_past (is_pair u j) e es miss))))
       (cases_Bool (is_pair u j e))
 
 pub found-revalued : (es : List Entry) (k t i : ℕ) (v : ℤ) → k < length es → is_pair t i (get_or es k blank) ≡ true → apart same_pair es ≡ true → found (revalued es k v) ≡ written (found es) t i v
 found-revalued es k t i v lt is a = fun_ext (λ u. fun_ext (λ j. revalued_point t i v u j es k lt is a))
-
-pub unfound : (es : List Entry) (t i : ℕ) → found es t i ≡ None → first (is_pair t i) es ≡ None
-unfound es t i h = go (first (is_pair t i) es) h
-  where
-    go : (o : Option Entry) → option_map value_of o ≡ None → o ≡ None
-    go None x = refl
-    go (Some e) x = let z : ◌≡◌ {A = ℕ} 0 1 = cc in absurd (omega arith)
 
 -- one more of t's, of which there were fewer than 64
 pub shares-push : (es : List Entry) (t i : ℕ) (v : ℤ) → count_of t es < 64 → ((u : ℕ) → count_of u es ≤ 64) → (u : ℕ) {n : ℕ} → n ≡ count_of u (es ++ entry t i v ∷ []) → n ≤ 64

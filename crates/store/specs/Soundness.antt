@@ -1,14 +1,13 @@
 -- Both stores keep what every store owes.
-use Rattle.std.specs.Prelude.{◌≡◌, ℕ, ◌≤◌, Bool, true, false, cond, List, length, ℤ, is_some, Some, None, Option, refl}
+use Rattle.std.specs.Prelude.{◌≡◌, ℕ, ◌≤◌, Bool, true, false, cond, List, length, ℤ, is_some, Some, None, Option, refl, find}
 use Rattle.std.proofs.Common.{length-take, ⊎_elim, ◌∙◌, ap, sym, arith}
 use Rattle.std.proofs.Math.Path.{fun_ext}
 use Rattle.std.proofs.lemmas.List.Filters.{length-filter_both}
 use Rattle.std.proofs.lemmas.Bool.{cases_Bool, cond-false, eqb-true, false≢true}
 use Rattle.std.specs.Option.{option_map}
 use Rattle.store.specs.declared.table.Entry.{Entry}
-use Rattle.store.specs.declared.table.Table.{Table}
-use Rattle.store.specs.Entries.{apart, bounded, count_of, entries, first, found, is_on, is_pair, others, owned, same_item, same_pair, size_of, value_of}
-use Rattle.store.specs.Finding.{apart-pair, first-bounded, held_found, mine, pair_by_item, row_found}
+use Rattle.store.specs.Entries.{apart, bounded, count_of, found, is_on, is_pair, others, owned, same_item, same_pair, size_of, value_of}
+use Rattle.store.specs.Finding.{apart-pair, find-bounded, held_found, mine, pair_by_item, row_found}
 use Rattle.store.specs.Laid.{length-laid}
 use Rattle.store.specs.Meaning.{Sound, held_count, row_count, sum_below}
 use Rattle.store.specs.Slices.{committed_behind, items, pending_in}
@@ -26,9 +25,6 @@ mine_owner t (Some e) h u k =
 pub count_of_le : (t : ℕ) (es : List Entry) → count_of t es ≤ length es
 count_of_le t es = omega (arith, length-filter_both (owned t) (others t) (λ _. refl) es)
 
-pub few_entries : (b : Table) → b.len ≤ 512 → length (entries b) ≤ 512
-few_entries b h = omega (arith, length-take b.len b.at)
-
 module _ (es : List Entry) (vs : List ℤ) (few : length es ≤ 512) (low : bounded (size_of vs) es ≡ true) where
   pub length_items : length (items vs) ≡ size_of vs
   length_items = length-take 1024 vs
@@ -43,7 +39,7 @@ module _ (es : List Entry) (vs : List ℤ) (few : length es ≤ 512) (low : boun
   private_sound ap' sh =
       record {
         narrow = omega (arith, length_items);
-        within = λ t i h. rw length_items (first-bounded (size_of vs) es t i low (sym (is_some-mapped value_of (first (is_pair t i) es)) ∙ h));
+        within = λ t i h. rw length_items (find-bounded (size_of vs) es t i low (sym (is_some-mapped value_of (find (is_pair t i) es)) ∙ h));
         single = λ no'. absurd (false≢true (sym no'));
         fits = omega (arith, held_beside ap');
         shares = λ t. omega (arith, row_beside ap' t, sh t);
@@ -69,12 +65,12 @@ module _ (es : List Entry) (vs : List ℤ) (few : length es ≤ 512) (low : boun
 
   pub in_place_sound : apart same_item es ≡ true → Sound false 512 512 (committed_behind es vs) (pending_in es vs)
   in_place_sound ap' =
-      let has : (t i : ℕ) → is_some (pending_in es vs t i) ≡ true → is_some (first (is_pair t i) es) ≡ true = λ t i h. sym (is_some-mapped value_of (first (is_pair t i) es)) ∙ sym (has_same t i) ∙ h in
-      let own : (t i : ℕ) → is_some (pending_in es vs t i) ≡ true → is_some (mine t (first (is_on i) es)) ≡ true = λ t i h. sym (ap is_some (pair_by_item es t i ap')) ∙ has t i h in
+      let has : (t i : ℕ) → is_some (pending_in es vs t i) ≡ true → is_some (find (is_pair t i) es) ≡ true = λ t i h. sym (is_some-mapped value_of (find (is_pair t i) es)) ∙ sym (has_same t i) ∙ h in
+      let own : (t i : ℕ) → is_some (pending_in es vs t i) ≡ true → is_some (mine t (find (is_on i) es)) ≡ true = λ t i h. sym (ap is_some (pair_by_item es t i ap')) ∙ has t i h in
       record {
         narrow = omega (arith, length_behind);
-        within = λ t i h. rw length_behind (first-bounded (size_of vs) es t i low (has t i h));
-        single = λ _ t u i h k. mine_owner t (first (is_on i) es) (own t i h) u (own u i k);
+        within = λ t i h. rw length_behind (find-bounded (size_of vs) es t i low (has t i h));
+        single = λ _ t u i h k. mine_owner t (find (is_on i) es) (own t i h) u (own u i k);
         fits = omega (arith, held_in ap');
         shares = λ t. omega (arith, row_in ap' t, count_of_le t es);
       }

@@ -1,12 +1,12 @@
 // A store that writes into the caller's slice at once, and keeps what stood there before.
 ghost use Rattle.std.specs.Prelude.{◌≡◌, ◌≤◌, true, false, [], ◌∷◌};
-ghost use Rattle.store.specs.Entries.{apart, bounded, entries, same_item, size_of};
-ghost use Rattle.store.specs.Meaning.{nothing};
-ghost use Rattle.store.specs.Slices.{committed_behind, in_place_slice, items, pending_in, rest};
-ghost use Rattle.store.specs.Soundness.{few_entries, in_place_sound};
+ghost use Rattle.store.specs.Entries.{apart, bounded, same_item, size_of};
+ghost use Rattle.store.specs.Slices.{committed_behind, in_place_slice, pending_in, rest};
+ghost use Rattle.store.specs.Soundness.{in_place_sound};
 
+use crate::on_slice::OnSlice;
 use crate::store::{Store, refusal};
-use crate::table::{ITEMS, ROOM, Table, land, on};
+use crate::table::{ITEMS, ROOM, Table};
 use records::refusal::{Reason, Refusal};
 
 /// A store in the caller's slice: an item's pending value stands in the slice, and the table keeps the item's
@@ -15,38 +15,8 @@ use records::refusal::{Reason, Refusal};
 pub struct InPlace<'a> {
     values: &'a mut [i32],
     images: Table,
-    ghost fits: { images.len ≤ 512 },
-    ghost apart: { apart same_item (entries images) ≡ true },
-    ghost bounded: { bounded (size_of values.now) (entries images) ≡ true },
-}
-
-impl<'a> InPlace<'a> {
-    /// Opens a store on a slice; the slice's values are the committed ones.
-    pub fn open(values: &'a mut [i32]) -> InPlace<'a>
-        ensures committed { committed_behind (entries result.images) result.values.now ≡ items values.old }
-        ensures pending { pending_in (entries result.images) result.values.now ≡ nothing }
-        ensures outside { rest result.values.now ≡ rest values.old }
-        ensures home { result.values.ghost_name ≡ values.entry.ghost_name }
-    {
-        let images = Table::new();
-        InPlace { values, images }
-    }
-
-    /// The slice as it stands: the committed values with all pending ones over them, and what are no items.
-    pub fn values(&self) -> &[i32]
-        ensures { result.now ≡ in_place_slice (committed_behind (entries self.now.images) self.now.values.now) (pending_in (entries self.now.images) self.now.values.now) (rest self.now.values.now) }
-    {
-        &*self.values
-    }
-
-    /// Ends the store and gives the slice back, pending values and all.
-    pub fn close(self) -> &'a mut [i32]
-        ensures slice { result.now ≡ in_place_slice (committed_behind (entries self.entry.images) self.entry.values.now) (pending_in (entries self.entry.images) self.entry.values.now) (rest self.entry.values.now) }
-        ensures home { result.ghost_name ≡ self.entry.values.ghost_name }
-    {
-        let values = self.values;
-        values
-    }
+    ghost apart: { apart same_item images.entries.items ≡ true },
+    ghost bounded: { bounded (size_of values.now) images.entries.items ≡ true },
 }
 
 impl Store for InPlace<'_> {
@@ -56,9 +26,9 @@ impl Store for InPlace<'_> {
 
     const PRIVATE: bool = false;
 
-    ghost committed = { λ s. committed_behind (entries s.images) s.values.now };
+    ghost committed = { λ s. committed_behind s.images.entries.items s.values.now };
 
-    ghost pending = { λ s. pending_in (entries s.images) s.values.now };
+    ghost pending = { λ s. pending_in s.images.entries.items s.values.now };
 
     ghost room = { 512 };
 
@@ -68,6 +38,7 @@ impl Store for InPlace<'_> {
 
     ghost place = { λ s. record { home = s.values.ghost_name ∷ []; outside = rest s.values.now } };
 
+    // The functions down to `held` are a line each in both stores, so nothing shared would be shorter.
     fn capacity() -> usize
         ensures { result ≡ 512 }
     {
@@ -91,20 +62,17 @@ impl Store for InPlace<'_> {
     }
 
     fn held(&self) -> usize {
-        self.images.list().len()
+        self.images.entries.len()
     }
 
     fn look(&self, t: u16, item: u16) -> Result<i32, Refusal> {
         if self.size() <= item as usize {
             return Err(refusal(Reason::NoSuchItem));
         }
-        let images = self.images.list();
-        if let Some(k) = on(images, item) {
-            if images[k].owner != t {
-                return Ok(images[k].value);
-            }
+        match self.images.on(item) {
+            Some(image) if image.owner != t => Ok(image.value),
+            _ => Ok(self.values[item as usize]),
         }
-        Ok(self.values[item as usize])
     }
 
     fn put(&mut self, t: u16, item: u16, value: i32) -> Result<(), Refusal> {
@@ -112,17 +80,17 @@ impl Store for InPlace<'_> {
         if self.size() <= i {
             return Err(refusal(Reason::NoSuchItem));
         }
-        match on(self.images.list(), item) {
+        match self.images.on(item) {
             None => {
                 // The share is the whole room, so the room alone decides.
-                if self.images.len == Self::ROOM {
+                if self.images.entries.is_full() {
                     return Err(refusal(Reason::NoRoom));
                 }
                 let before = self.values[i];
                 self.images.push(t, item, before);
             }
-            Some(k) => {
-                if self.images.at[k].owner != t {
+            Some(image) => {
+                if image.owner != t {
                     return Err(refusal(Reason::ItemTaken));
                 }
                 // The before-image of the first put stays.
@@ -137,10 +105,28 @@ impl Store for InPlace<'_> {
     }
 
     fn discard(&mut self, t: u16) {
-        let InPlace { values, images } = self;
-        land(images.list(), t, values);
-        images.forget(t);
+        self.images.land(t, self.values);
+        self.images.forget(t);
     }
 
-    ghost sound = { λ s. in_place_sound (entries s.images) s.values.now (few_entries s.images s.fits) s.bounded s.apart };
+    ghost sound = { λ s. in_place_sound s.images.entries.items s.values.now s.images.fits s.bounded s.apart };
+}
+
+impl<'a> OnSlice<'a> for InPlace<'a> {
+    // The committed values with all pending ones over them, and what are no items.
+    ghost holds = { in_place_slice };
+
+    fn open(values: &'a mut [i32]) -> InPlace<'a> {
+        let images = Table::new();
+        InPlace { values, images }
+    }
+
+    fn values(&self) -> &[i32] {
+        &*self.values
+    }
+
+    fn close(self) -> &'a mut [i32] {
+        let values = self.values;
+        values
+    }
 }

@@ -3,6 +3,7 @@
 
 pub mod in_place;
 pub mod lending;
+pub mod on_slice;
 pub mod private;
 pub mod rehearsal;
 pub mod store;

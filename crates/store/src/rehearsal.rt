@@ -6,7 +6,7 @@ ghost use Rattle.store.specs.Rehearsals.{accepted};
 use crate::store::Store;
 
 /// A value for an item.
-#[derive(Clone, Copy)]
+#[derive(Clone, Copy, PartialEq, Eq, Debug)]
 pub struct Write {
     pub item: u16,
     pub value: i32,
@@ -23,6 +23,7 @@ pub fn rehearse<S: Store>(store: &mut S, t: u16, writes: &[Write]) -> usize
     ensures own { (i : ℕ) → S.pending store.old t i ≡ None → looked (S.committed store.new) (S.pending store.new) t i ≡ looked (S.committed store.old) (S.pending store.old) t i }
     ensures place { S.place store.new ≡ S.place store.old }
 {
+    // No chain: of a store that a closure changed, a proof knows nothing afterwards.
     let mut count = 0;
     for w in writes {
         if store.put(t, w.item, w.value).is_ok() {

@@ -18,6 +18,8 @@ pub trait Store {
 
     ghost pending: { Self → ℕ → ℕ → Option ℤ };
 
+    // The constants once more, each with a function: at a type with a lifetime a ghost member of the constant's own name
+    // is refused ("cannot give this method the clauses of its trait yet").
     ghost room: { ℕ };
 
     ghost share: { ℕ };

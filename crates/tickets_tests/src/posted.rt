@@ -6,6 +6,7 @@ use scheduler::rule::{DeferredUpdates, LockRule, WritersPassReaders};
 use scheduler::scheduler::Scheduler;
 use std::process::Abort;
 use store::in_place::InPlace;
+use store::on_slice::OnSlice;
 use store::store::Store;
 
 /// No transaction has this number, so it sees the committed values.

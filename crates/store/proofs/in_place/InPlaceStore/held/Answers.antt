@@ -1,7 +1,6 @@
-use Rattle.std.proofs.Common.{length, sym, ap, ◌∙◌}
+use Rattle.std.proofs.Common.{sym, ◌∙◌}
 use Rattle.store.proofs.in_place.InPlaceStore.held.Goals as goal
-use Rattle.store.specs.Entries.{entries}
-use Rattle.store.specs.Soundness.{few_entries, held_in}
+use Rattle.store.specs.Soundness.{held_in}
 
 pub returns : goal.returns
-returns c = let s = c.args.self.now in ap length c.list.ensures.value ∙ sym (held_in (entries s.images) s.values.now (few_entries s.images s.fits) s.bounded s.apart)
+returns c = let s = c.args.self.now in c.len.ensures.value ∙ sym (held_in s.images.entries.items s.values.now s.images.fits s.bounded s.apart)

@@ -1,22 +1,20 @@
-use Rattle.std.proofs.Common.{refl, ap, ◌∙◌, arith}
+use Rattle.std.proofs.Common.{arith}
 use Rattle.store.proofs.Kept.{apart_kept, bounded_kept, count_kept}
 use Rattle.store.proofs.private.PrivateStore.discard.Goals as goal
 use Rattle.store.proofs.Workspace.{found_kept}
-use Rattle.store.specs.Entries.{apart, bounded, count_of, entries, found, others, same_pair, size_of}
+use Rattle.store.specs.Entries.{others, same_pair, size_of}
 
 pub invariant_of-self : goal.invariant_of-self
 invariant_of-self c =
     let s = c.args.self.now in
-    let es = entries s.writes in
-    let n = size_of s.values.now in
+    let es = s.writes.entries.items in
     let q = others c.args.t in
-    let kept = c.forget.ensures.entries in
+    let gone = c.forget.ensures in
     record {
-      fits = omega (arith, c.forget.ensures.len, s.fits);
-      apart = ap (apart same_pair) kept ∙ apart_kept same_pair q es s.apart;
-      bounded = ap (bounded n) kept ∙ bounded_kept n q es s.bounded;
-      shares = (λ u. omega (arith, ap (count_of u) kept, count_kept u q es, s.shares u));
+      apart = rw gone (apart_kept same_pair q es s.apart);
+      bounded = rw gone (bounded_kept (size_of s.values.now) q es s.bounded);
+      shares = λ u. rw gone (omega (arith, count_kept u q es, s.shares u));
     }
 
-pub returns : goal.returns
-returns c = record { committed = refl; pending = ap found c.forget.ensures.entries ∙ found_kept (entries c.args.self.now.writes) c.args.t; place = refl }
+pub returns-clause-pending : goal.returns-clause-pending
+returns-clause-pending c = rw c.forget.ensures (found_kept c.args.self.now.writes.entries.items c.args.t)

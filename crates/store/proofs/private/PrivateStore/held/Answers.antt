@@ -1,7 +1,6 @@
-use Rattle.std.proofs.Common.{length, sym, ap, ◌∙◌}
+use Rattle.std.proofs.Common.{sym, ◌∙◌}
 use Rattle.store.proofs.private.PrivateStore.held.Goals as goal
-use Rattle.store.specs.Entries.{entries}
-use Rattle.store.specs.Soundness.{few_entries, held_beside}
+use Rattle.store.specs.Soundness.{held_beside}
 
 pub returns : goal.returns
-returns c = let s = c.args.self.now in ap length c.list.ensures.value ∙ sym (held_beside (entries s.writes) s.values.now (few_entries s.writes s.fits) s.bounded s.apart)
+returns c = let s = c.args.self.now in c.len.ensures.value ∙ sym (held_beside s.writes.entries.items s.values.now s.writes.fits s.bounded s.apart)
