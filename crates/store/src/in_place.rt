@@ -5,9 +5,9 @@ ghost use Rattle.store.specs.Slices.{committed_behind, in_place_slice, pending_i
 ghost use Rattle.store.specs.Soundness.{in_place_sound};
 
 use crate::on_slice::OnSlice;
-use crate::store::{Store, refusal};
+use crate::store::Store;
 use crate::table::{ITEMS, ROOM, Table};
-use records::refusal::{Reason, Refusal};
+use records::refusal::{Layer, Reason, Refusal};
 
 /// A store in the caller's slice: an item's pending value stands in the slice, and the table keeps the item's
 /// before-image, which is its committed value meanwhile.
@@ -67,7 +67,7 @@ impl Store for InPlace<'_> {
 
     fn look(&self, t: u16, item: u16) -> Result<i32, Refusal> {
         if self.size() <= item as usize {
-            return Err(refusal(Reason::NoSuchItem));
+            return Err(Layer::Store.refusal(Reason::NoSuchItem));
         }
         match self.images.on(item) {
             Some(image) if image.owner != t => Ok(image.value),
@@ -78,20 +78,20 @@ impl Store for InPlace<'_> {
     fn put(&mut self, t: u16, item: u16, value: i32) -> Result<(), Refusal> {
         let i = item as usize;
         if self.size() <= i {
-            return Err(refusal(Reason::NoSuchItem));
+            return Err(Layer::Store.refusal(Reason::NoSuchItem));
         }
         match self.images.on(item) {
             None => {
                 // The share is the whole room, so the room alone decides.
                 if self.images.entries.is_full() {
-                    return Err(refusal(Reason::NoRoom));
+                    return Err(Layer::Store.refusal(Reason::NoRoom));
                 }
                 let before = self.values[i];
                 self.images.push(t, item, before);
             }
             Some(image) => {
                 if image.owner != t {
-                    return Err(refusal(Reason::ItemTaken));
+                    return Err(Layer::Store.refusal(Reason::ItemTaken));
                 }
                 // The before-image of the first put stays.
             }

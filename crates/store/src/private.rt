@@ -5,9 +5,9 @@ ghost use Rattle.store.specs.Slices.{items, private_slice, rest};
 ghost use Rattle.store.specs.Soundness.{private_sound};
 
 use crate::on_slice::OnSlice;
-use crate::store::{Store, refusal};
+use crate::store::Store;
 use crate::table::{ITEMS, ROOM, Table};
-use records::refusal::{Reason, Refusal};
+use records::refusal::{Layer, Reason, Refusal};
 
 /// A store beside the caller's slice: the slice has the committed values, and the table the pending writes.
 #[derive(Drop)]
@@ -67,7 +67,7 @@ impl Store for Private<'_> {
 
     fn look(&self, t: u16, item: u16) -> Result<i32, Refusal> {
         if self.size() <= item as usize {
-            return Err(refusal(Reason::NoSuchItem));
+            return Err(Layer::Store.refusal(Reason::NoSuchItem));
         }
         match self.writes.value(t, item) {
             Some(value) => Ok(value),
@@ -77,14 +77,14 @@ impl Store for Private<'_> {
 
     fn put(&mut self, t: u16, item: u16, value: i32) -> Result<(), Refusal> {
         if self.size() <= item as usize {
-            return Err(refusal(Reason::NoSuchItem));
+            return Err(Layer::Store.refusal(Reason::NoSuchItem));
         }
         if let Some(k) = self.writes.place(t, item) {
             self.writes.replace(k, value);
             return Ok(());
         }
         if self.writes.entries.is_full() || self.writes.count(t) >= Self::SHARE {
-            return Err(refusal(Reason::NoRoom));
+            return Err(Layer::Store.refusal(Reason::NoRoom));
         }
         self.writes.push(t, item, value);
         Ok(())

@@ -1,8 +1,8 @@
 // What every value store is and does.
 ghost use Rattle.std.specs.Prelude.{◌≡◌, ℕ, Bool, List, length, ℤ, is_ok, if◌then◌else◌, Option};
-ghost use Rattle.store.specs.Meaning.{Place, Sound, answered, held_count, laid, looked, of_store, refused, without, written};
+ghost use Rattle.store.specs.Meaning.{Place, Sound, answered, held_count, laid, looked, refused, without, written};
 
-use records::refusal::{Layer, Reason, Refusal};
+use records::refusal::Refusal;
 
 /// A store of values. Its items are 0 to its size - 1. It means a committed value for each item, and for a pair of a
 /// transaction and an item at most one pending write.
@@ -74,13 +74,4 @@ pub trait Store {
 
     // What the meaning of a store keeps at all times.
     ghost sound: { (s : Self) → Sound private room share (committed s) (pending s) };
-}
-
-pub(crate) fn refusal(reason: Reason) -> Refusal
-    ensures { result ≡ of_store reason }
-{
-    Refusal {
-        layer: Layer::Store,
-        reason,
-    }
 }
