@@ -1,36 +1,35 @@
 -- Searches through the locks, from the front and from the end.
-use Rattle.std.proofs.Common.{◌≡◌, ℕ, zero, suc, Bool, true, false, cond, ◌&&◌, ◌||◌, eqb, List, [], ◌∷◌, ◌++◌, length, take, drop, Some, None, sym, refl, ap, ◌∙◌, subst, inl, inr, arith}
-use Rattle.std.specs.List.{find}
-use Rattle.std.proofs.lemmas.List.{append_assoc, take-append-drop}
+use Rattle.std.proofs.Common.{◌≡◌, ℕ, zero, suc, ◌+◌, ◌<◌, ◌≤◌, Bool, true, false, cond, ◌&&◌, ◌||◌, eqb, List, [], ◌∷◌, ◌++◌, length, get_or, take, drop, sym, refl, ap, ◌∙◌, subst, inl, inr}
+use Rattle.std.proofs.lemmas.List.{append_assoc, at_drop_all, at_drop_more, take-append-drop}
 use Rattle.std.proofs.Math.Seq.{drop-append_seam, take-append_seam}
-use Rattle.std.proofs.lemmas.Bool.{and_left, and_right, both_ways, cases_Bool, cases_eq, eq-eqb, ne_eqb}
+use Rattle.std.proofs.lemmas.Bool.{and_left, and_right, both_ways, cases_Bool, cases_eq, cond-false, cond-true, eq-eqb, ne_eqb, or_left}
 use Rattle.scheduler.specs.declared.lock.Kind.{Kind}
 use Rattle.scheduler.specs.declared.lock.Kind.TheVariants.{Write}
 use Rattle.scheduler.specs.declared.lock.Lock.{Lock}
+use Rattle.scheduler.specs.Orders.{no_lock}
 use Rattle.scheduler.specs.Blockers.{Rule, In, ahead, barring, bars, first, later, reads_beside}
 use Rattle.scheduler.specs.Ledger.{holds, is_lock, same_kind}
 use Rattle.scheduler.proofs.Locks.{is_lock_eq}
 
--- the first lock that bars is of one who bars, and where none does, nobody bars
-module _ (ok : Rule) (t i : ℕ) (k : Kind) where
-  pub barring-none : (ls : List Lock) → find (bars ok t i k) ls ≡ None → barring ok t i k ls ≡ []
-  barring-none [] e = refl
-  barring-none (l ∷ ls) e = go (bars ok t i k l) (barring-none ls) e
-    where
-      go : (b : Bool) → (find (bars ok t i k) ls ≡ None → barring ok t i k ls ≡ []) → cond b (Some l) (find (bars ok t i k) ls) ≡ None → cond b (l.owner ∷ barring ok t i k ls) (barring ok t i k ls) ≡ []
-      go true rest e = let z : ◌≡◌ {A = ℕ} 0 1 = cc in absurd (omega arith)
-      go false rest e = rest e
+module _ (t x : ℕ) (k : Kind) (ls : List Lock) (i : ℕ) where
+  pub holds_past : i < length ls → is_lock t x k (get_or ls i no_lock) ≡ false → holds t x k (drop (i + 1) ls) ≡ holds t x k (drop i ls)
+  holds_past l e = sym (at_drop_more (holds t x k) ls i no_lock l ∙ ap (λ (b : Bool). b || holds t x k (drop (i + 1) ls)) e)
 
-  pub barring-found : (ls : List Lock) (m : Lock) → find (bars ok t i k) ls ≡ Some m → In m.owner (barring ok t i k ls)
-  barring-found [] m e = let z : ◌≡◌ {A = ℕ} 0 1 = cc in absurd (omega arith)
-  barring-found (l ∷ ls) m e = go (bars ok t i k l) (barring-found ls m) e
-    where
-      owner : {x y : Lock} → Some x ≡ Some y → x ≡ y
-      owner e = cc
+  pub holds-here : i < length ls → is_lock t x k (get_or ls i no_lock) ≡ true → holds t x k (drop i ls) ≡ true
+  holds-here l e = at_drop_more (holds t x k) ls i no_lock l ∙ or_left (is_lock t x k (get_or ls i no_lock)) (holds t x k (drop (i + 1) ls)) e
 
-      go : (b : Bool) → (find (bars ok t i k) ls ≡ Some m → In m.owner (barring ok t i k ls)) → cond b (Some l) (find (bars ok t i k) ls) ≡ Some m → In m.owner (cond b (l.owner ∷ barring ok t i k ls) (barring ok t i k ls))
-      go true rest e = subst (λ (x : Lock). In x.owner (l.owner ∷ barring ok t i k ls)) (owner e) first
-      go false rest e = rest e
+  pub holds_end : length ls ≤ i → holds t x k (drop i ls) ≡ false
+  holds_end l = at_drop_all (holds t x k) ls i l
+
+module _ (ok : Rule) (t x : ℕ) (k : Kind) (ls : List Lock) (i : ℕ) where
+  pub barring_past : i < length ls → bars ok t x k (get_or ls i no_lock) ≡ false → barring ok t x k (drop (i + 1) ls) ≡ barring ok t x k (drop i ls)
+  barring_past l e = sym (at_drop_more (barring ok t x k) ls i no_lock l ∙ cond-false _ _ _ e)
+
+  pub barring-here : i < length ls → bars ok t x k (get_or ls i no_lock) ≡ true → In (get_or ls i no_lock).owner (barring ok t x k (drop i ls))
+  barring-here l e = subst (λ (bs : List ℕ). In (get_or ls i no_lock).owner bs) (sym (at_drop_more (barring ok t x k) ls i no_lock l ∙ cond-true _ _ _ e)) first
+
+  pub barring_end : length ls ≤ i → barring ok t x k (drop i ls) ≡ []
+  barring_end l = at_drop_all (barring ok t x k) ls i l
 
 -- the last lock of a front is the first of what stands behind the rest of it
 module _ (ls old new : List Lock) (x : Lock) (front : old ≡ take (length old) ls) (last : old ≡ new ++ x ∷ []) where

@@ -1,22 +1,16 @@
-use Rattle.std.proofs.Common.{sym, ap, ◌∙◌, rules}
-use borrow.Author.Tests.{tests}
-use Rattle.std.specs.Option.{option_map}
-use Rattle.std.proofs.lemmas.Iterator.{YieldsList-from_slice}
-use Rattle.std.proofs.lemmas.Iterator.Search.{find_from_yields_List}
-use Rattle.scheduler.specs.Blockers.{bars}
-use Rattle.scheduler.proofs.Scans.{barring-found, barring-none}
+use Rattle.std.proofs.Common.{ℕ, List, get_or, sym, ◌∙◌, subst}
+use Rattle.scheduler.specs.Orders.{no_lock}
+use Rattle.scheduler.specs.Blockers.{In}
+use Rattle.scheduler.proofs.Scans.{barring_end, barring-here, barring_past}
 use Rattle.scheduler.proofs.search.barring.Goals as goal
 
-pub returns-in_err-lock : goal.returns-in_err-lock
-returns-in_err-lock g c =
-    let ok = g.R.LockRule.allows c.args.rule.now in
-    let test = bars ok c.args.t c.args.item c.args.kind in
-    let found = find_from_yields_List test _ _ c.find.result c.find.ensures.ran (YieldsList-from_slice c.args.locks.now cc) (λ x b q k. search (rules, tests)) in
-    rw c.from_residual.ensures (barring-none ok c.args.t c.args.item c.args.kind c.args.locks.now (sym found ∙ ap (option_map (λ l. l.now)) c.in_err-lock.was))
+pub loop-lock-preserved : goal.loop-lock-preserved
+loop-lock-preserved g c = barring_past (g.R.LockRule.allows c.args.rule.now) c.args.t c.args.item c.args.kind c.args.locks.now c.loop-lock.lock-index c.loop-lock-test.true (sym c.if-bars.ensures) ∙ c.loop-lock.invariant
+
+pub returns-then-bars : goal.returns-then-bars
+returns-then-bars g c =
+    subst (λ (bs : List ℕ). In (get_or c.args.locks.now c.loop-lock.lock-index no_lock).owner bs) c.loop-lock.invariant
+    (barring-here (g.R.LockRule.allows c.args.rule.now) c.args.t c.args.item c.args.kind c.args.locks.now c.loop-lock.lock-index c.loop-lock-test.true (sym c.if-bars.ensures))
 
 pub returns : goal.returns
-returns g c =
-    let ok = g.R.LockRule.allows c.args.rule.now in
-    let test = bars ok c.args.t c.args.item c.args.kind in
-    let found = find_from_yields_List test _ _ c.find.result c.find.ensures.ran (YieldsList-from_slice c.args.locks.now cc) (λ x b q k. search (rules, tests)) in
-    barring-found ok c.args.t c.args.item c.args.kind c.args.locks.now c.in_ok-lock.lock.now (sym found ∙ ap (option_map (λ l. l.now)) c.in_ok-lock.was)
+returns g c = sym c.loop-lock.invariant ∙ barring_end (g.R.LockRule.allows c.args.rule.now) c.args.t c.args.item c.args.kind c.args.locks.now c.loop-lock.lock-index c.loop-lock-test.false
