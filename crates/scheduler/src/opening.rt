@@ -84,12 +84,7 @@ impl Tables {
     }
 
     /// The lock that the transaction lacks for the kind on the item, if it does; refused where the list is full.
-    pub(crate) fn missing(
-        &self,
-        t: u16,
-        item: u16,
-        kind: Kind,
-    ) -> Result<Option<Lock>, Refusal>
+    pub(crate) fn missing(&self, t: u16, item: u16, kind: Kind) -> Result<Option<Lock>, Refusal>
         ensures answer { result ≡ with_room (missing t item kind self.now.locks.inner.items) (ledger_of self.now) }
         ensures room { IfOk result (λ l. IfSome l (λ _. length self.now.locks.inner.items < 2048)) }
     {

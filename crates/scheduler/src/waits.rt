@@ -44,12 +44,7 @@ fn barring<R: LockRule>(rule: &R, kind: Kind, readers: Places, writers: Places) 
 
 impl Tables {
     /// Whom the transaction at the place `b` waits for by what it asks for in the block.
-    fn asked_in<R: LockRule>(
-        &self,
-        rule: &R,
-        holders: &Holders,
-        b: usize,
-    ) -> Places
+    fn asked_in<R: LockRule>(&self, rule: &R, holders: &Holders, b: usize) -> Places
         requires within { b < length self.now.«open».items }
         requires holders { Holds self.now.«open».items self.now.locks.inner.items holders.now }
         ensures { (a : ℕ) → a < 64 → has result.bits a ≡ between self.now.«open».items (asks (in_block holders.now.block) (R.allows rule.now) self.now.locks.inner.items) b a }
@@ -74,12 +69,7 @@ impl Tables {
     }
 
     /// Adds whom each waits for by what it asks for in the block.
-    fn add_asks<R: LockRule>(
-        &self,
-        rule: &R,
-        holders: &Holders,
-        rows: &mut [Places; OPEN],
-    )
+    fn add_asks<R: LockRule>(&self, rule: &R, holders: &Holders, rows: &mut [Places; OPEN])
         requires holders { Holds self.now.«open».items self.now.locks.inner.items holders.now }
         ensures { More self.now.«open».items (asks (in_block holders.now.block) (R.allows rule.now) self.now.locks.inner.items) rows.old rows.new }
     {
@@ -99,7 +89,9 @@ impl Tables {
             if counts(*lock, Kind::Write, holders.block) {
                 if let Some(b) = self.find(lock.owner) {
                     if self.state(b).is_committing() {
-                        rows[b] = rows[b].union(holders.readers[usize::from(lock.item % BLOCK)].without(b));
+                        rows[b] = rows[b].union(holders.readers[usize::from(
+                            lock.item % BLOCK,
+                        )].without(b));
                     }
                 }
             }

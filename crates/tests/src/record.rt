@@ -54,10 +54,7 @@ pub(crate) fn written_and_read<R: Record>(
 }
 
 /// Each cut of an example is refused, and so is each buffer that is too short for it.
-pub(crate) fn every_cut<R: Record>(
-    rt: &impl Abort,
-    examples: &[(R, &[u8])],
-) -> Result<(), Fail> {
+pub(crate) fn every_cut<R: Record>(rt: &impl Abort, examples: &[(R, &[u8])]) -> Result<(), Fail> {
     for (record, bytes) in examples {
         for n in 0..bytes.len() {
             let Err(refusal) = R::read(&bytes[0..n]) else {

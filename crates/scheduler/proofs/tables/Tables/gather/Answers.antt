@@ -43,11 +43,11 @@ loop-lock-preserved c =
           λ kind cells next H p. held_put os T.begins T.rising ls k w kind in' cells next v.in-Some.place H.0 H.1 here v.in-Some.ensures (subst (λ (j : ℕ). Puts (same_kind l.kind kind) cells next j v.in-Some.place) v.from.ensures p) in
           rw v.holders-is (I.0, v.add.ensures.block ∙ I.1, put Read _ _ I.2 v.add.ensures.readers, put Write _ _ I.3 v.add.ensures.writers)
       | then-lock-holders+in_default v ↦ rw v.holders-is (
-          I.0,
-          I.1,
-          (held_gone os T.begins T.rising ls k w Read in' c.loop-lock.holders.readers I.2.0 v.in_default.ensures, I.2.1),
-          (held_gone os T.begins T.rising ls k w Write in' c.loop-lock.holders.writers I.3.0 v.in_default.ensures, I.3.1),
-        )
+        I.0,
+        I.1,
+        (held_gone os T.begins T.rising ls k w Read in' c.loop-lock.holders.readers I.2.0 v.in_default.ensures, I.2.1),
+        (held_gone os T.begins T.rising ls k w Write in' c.loop-lock.holders.writers I.3.0 v.in_default.ensures, I.3.1),
+      )
       | else-lock-holders v ↦
           let away = ne_eqb _ w (λ e. v.if-lock-holders.false (e ∙ sym I.1)) in
           rw v.holders-is (
