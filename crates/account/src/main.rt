@@ -8,7 +8,7 @@ mod written;
 use crate::run::print_run;
 use crate::written::print_records;
 use cases::starting_values;
-use reading::requests::LIMIT;
+use reading::input::read_input;
 use scheduler::rule::{DeferredUpdates, WritersPassReaders};
 use std::io::Read;
 use std::{env, io};
@@ -45,22 +45,22 @@ fn asked(rt: &HostRuntime) -> io::Result<Task> {
 
 fn main(rt: HostRuntime) -> io::Result<()> {
     let task = asked(&rt)?;
-    let mut input = Vec::new(rt.alloc());
     let mut values = starting_values();
     match task {
         Task::InPlace => {
-            rt.stdin().take(LIMIT as u64 + 1).read_to_end(&mut input)?;
+            let input = read_input(rt.alloc(), rt.stdin())?;
             let store = InPlace::open(&mut values);
             print_run(&rt, store, WritersPassReaders, &input)
         }
         Task::Beside => {
-            rt.stdin().take(LIMIT as u64 + 1).read_to_end(&mut input)?;
+            let input = read_input(rt.alloc(), rt.stdin())?;
             let store = Private::open(&mut values);
             print_run(&rt, store, DeferredUpdates, &input)
         }
         Task::Records => {
-            rt.stdin().read_to_end(&mut input)?;
-            print_records(&rt, &input)
+            let mut records = Vec::new(rt.alloc());
+            rt.stdin().read_to_end(&mut records)?;
+            print_records(&rt, &records)
         }
     }
 }

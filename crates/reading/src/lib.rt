@@ -2,4 +2,5 @@
 #![tactic(auto)]
 
 pub mod file;
+pub mod input;
 pub mod requests;

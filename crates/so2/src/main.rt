@@ -2,15 +2,13 @@
 //! standard output.
 #![tactic(auto)]
 
-use reading::requests::LIMIT;
+use reading::input::read_input;
 use server::pairs::serve_beside;
 use std::io;
-use std::io::{Read, Write};
+use std::io::Write;
 
 fn main(rt: HostRuntime) -> io::Result<()> {
-    let mut input = Vec::new(rt.alloc());
-    // One byte more than is read tells an input that is too long.
-    rt.stdin().take(LIMIT as u64 + 1).read_to_end(&mut input)?;
+    let input = read_input(rt.alloc(), rt.stdin())?;
     let output = serve_beside(rt.alloc(), &input)?;
     rt.stdout().write_all(&output)
 }

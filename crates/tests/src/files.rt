@@ -1,6 +1,7 @@
 // Request files: where they end, and how long they may be.
 use crate::refused::{CUT, LONG, UNKNOWN};
 use reading::file::{Ending, Placed};
+use reading::input::read_input;
 use reading::requests::requests_in;
 use records::request::Request;
 use std::test::Fail;
@@ -80,5 +81,18 @@ fn limit(rt: HostRuntime) -> Result<(), Fail> {
             place: 0,
         }
     );
+    Ok(())
+}
+
+// What is read of a source ends one byte behind the limit.
+#[test]
+fn read(rt: HostRuntime) -> Result<(), Fail> {
+    let mut file = vec![in rt.alloc(); 1u8; 60000]?;
+    assert_eq!(rt; read_input(rt.alloc(), file.as_slice())?.len(), 60000);
+    file.push(2)?;
+    file.push(3)?;
+    let input = read_input(rt.alloc(), file.as_slice())?;
+    assert_eq!(rt; input.len(), 60001);
+    assert_eq!(rt; input.last().copied(), Some(2));
     Ok(())
 }
