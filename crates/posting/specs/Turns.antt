@@ -1,10 +1,12 @@
 -- The call that a posting makes next, and what it becomes by the answer.
-use Rattle.std.specs.Prelude.{ℕ, ◌-◌, Bool, cond, ◌&&◌, ℤ, pos, negsuc, ◌+ℤ◌, Ok, Err, Result, ◌==◌, int_le}
+use Rattle.std.specs.Prelude.{◌≡◌, ℕ, ◌-◌, Bool, cond, ◌&&◌, ℤ, pos, negsuc, ◌+ℤ◌, Ok, Err, Result, ◌==◌, int_le}
 use Rattle.records.specs.declared.refusal.Refusal.{Refusal}
 use Rattle.records.specs.declared.request.Request.{Request}
 use Rattle.records.specs.declared.request.Request.TheVariants.{Begin, Read, Write, Commit, Abort, Retry}
 use Rattle.scheduler.specs.declared.reply.Reply.TheVariants.{Opened, Value, Written, Committed, Aborted, Wait, Deadlock}
 use Rattle.scheduler.specs.Ledger.{Answer}
+use Rattle.tickets.specs.declared.outcome.NotGranted.{NotGranted}
+use Rattle.tickets.specs.declared.outcome.NotGranted.TheVariants.{Wait as not_wait, Deadlock as not_deadlock, Refused as not_refused}
 use Rattle.tickets.specs.declared.ticket.Active.{Active}
 use Rattle.tickets.specs.declared.ticket.Waiting.{Waiting}
 use Rattle.posting.specs.declared.posting.Cause.{Cause}
@@ -90,3 +92,9 @@ next p (Ok (Aborted t)) = Told (GivenUp (cause p.stage))
 next p (Ok (Wait t b)) = Going (waits p.game t)
 next p (Ok (Deadlock t)) = Told (GivenUp by_deadlock)
 next p (Err e) = refused p.game p.stage e
+
+-- what the turn after a call that is not granted is; `Refused` says so of a refusal
+abbrev pub HeldUp : {T : Type 0} → (T → Refusal → Turn → Type 0) → Game → NotGranted T → Turn → Type 0
+HeldUp OfRefused g (not_wait k b) r = r ≡ Going (waits g k.number)
+HeldUp OfRefused g not_deadlock r = r ≡ Told (GivenUp by_deadlock)
+HeldUp OfRefused g (not_refused k e) r = OfRefused k e r

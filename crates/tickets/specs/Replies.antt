@@ -15,3 +15,14 @@ ToAsk t x (Ok (Aborted u)) = ⊥
 ToAsk t x (Ok (Wait u b)) = u ≡ t
 ToAsk t x (Ok (Deadlock u)) = u ≡ t
 ToAsk t x (Err e) = Unit {0}
+
+-- to t, and nothing is granted
+abbrev pub GrantsNothing : ℕ → Answer → Type 0
+GrantsNothing t (Ok (Opened u)) = ⊥
+GrantsNothing t (Ok (Value u i v)) = ⊥
+GrantsNothing t (Ok (Written u i)) = ⊥
+GrantsNothing t (Ok (Committed u)) = ⊥
+GrantsNothing t (Ok (Aborted u)) = ⊥
+GrantsNothing t (Ok (Wait u b)) = u ≡ t
+GrantsNothing t (Ok (Deadlock u)) = u ≡ t
+GrantsNothing t (Err e) = Unit {0}

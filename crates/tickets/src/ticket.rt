@@ -1,14 +1,14 @@
 // A transaction's ticket, in two types, and what an answer makes of it.
-ghost use Rattle.std.specs.Prelude.{◌≡◌, ℤ};
+ghost use Rattle.std.specs.Prelude.{◌≡◌, ℕ, ℤ};
 ghost use Rattle.scheduler.specs.declared.transaction.Ask.{Ask};
 ghost use Rattle.scheduler.specs.declared.transaction.Ask.TheVariants.{Read as AskRead, Write as AskWrite, Commit as AskCommit};
-ghost use Rattle.tickets.specs.Outcomes.{CommitNumber, ReadNumber, RetryNumber, WriteNumber, commit_answer, read_answer, retry_answer, write_answer};
-ghost use Rattle.tickets.specs.Replies.{ToAsk};
+ghost use Rattle.tickets.specs.Outcomes.{CommitNumber, NotGrantedNumber, ReadNumber, RetryNumber, WriteNumber, commit_answer, not_granted_answer, read_answer, retry_answer, write_answer};
+ghost use Rattle.tickets.specs.Replies.{GrantsNothing, ToAsk};
 
 mod calls;
 mod retries;
 
-use crate::outcome::{Committing, Reading, Retrying, Writing};
+use crate::outcome::{Committing, Found, NotGranted, Reading, Retried, Retrying, Writing};
 use records::refusal::Refusal;
 use scheduler::reply::Reply;
 
@@ -22,32 +22,60 @@ pub struct Waiting {
     number: u16,
 }
 
+// Who sees this trait can make a ticket of any number, so it stays in this module.
+trait Ticket {
+    ghost number_of: { Self → ℕ };
+
+    fn of(number: u16) -> Self
+        ensures { number_of result ≡ number };
+}
+
+impl Ticket for Active {
+    ghost number_of = { λ k. k.number };
+
+    fn of(number: u16) -> Active {
+        Active { number }
+    }
+}
+
+impl Ticket for Waiting {
+    ghost number_of = { λ k. k.number };
+
+    fn of(number: u16) -> Waiting {
+        Waiting { number }
+    }
+}
+
+fn not_granted<T: Ticket>(number: u16, answer: Result<Reply, Refusal>) -> NotGranted<T>
+    requires { GrantsNothing number answer }
+    ensures answer { answer ≡ not_granted_answer number result }
+    ensures number { NotGrantedNumber T.number_of number result }
+{
+    match answer {
+        Ok(Reply::Wait { blocker, .. }) => NotGranted::Wait {
+            ticket: Waiting { number },
+            blocker,
+        },
+        Ok(Reply::Deadlock { .. }) => NotGranted::Deadlock,
+        Ok(_) => unreachable!(),
+        Err(refusal) => NotGranted::Refused {
+            ticket: T::of(number),
+            refusal,
+        },
+    }
+}
+
 fn reading(number: u16, item: u16, answer: Result<Reply, Refusal>) -> Reading
     requires { ToAsk number (AskRead item) answer }
     ensures answer { answer ≡ read_answer number item result }
     ensures number { ReadNumber number result }
 {
     match answer {
-        Ok(
-            Reply::Value {
-                t: _,
-                item: _,
-                value,
-            },
-        ) => Reading::Value {
+        Ok(Reply::Value { value, .. }) => Ok(Found {
             ticket: Active { number },
             value,
-        },
-        Ok(Reply::Wait { t: _, blocker }) => Reading::Wait {
-            ticket: Waiting { number },
-            blocker,
-        },
-        Ok(Reply::Deadlock { t: _ }) => Reading::Deadlock,
-        Ok(_) => unreachable(),
-        Err(refusal) => Reading::Refused {
-            ticket: Active { number },
-            refusal,
-        },
+        }),
+        answer => Err(not_granted(number, answer)),
     }
 }
 
@@ -57,19 +85,8 @@ fn writing(number: u16, item: u16, answer: Result<Reply, Refusal>) -> Writing
     ensures number { WriteNumber number result }
 {
     match answer {
-        Ok(Reply::Written { t: _, item: _ }) => Writing::Written {
-            ticket: Active { number },
-        },
-        Ok(Reply::Wait { t: _, blocker }) => Writing::Wait {
-            ticket: Waiting { number },
-            blocker,
-        },
-        Ok(Reply::Deadlock { t: _ }) => Writing::Deadlock,
-        Ok(_) => unreachable(),
-        Err(refusal) => Writing::Refused {
-            ticket: Active { number },
-            refusal,
-        },
+        Ok(Reply::Written { .. }) => Ok(Active { number }),
+        answer => Err(not_granted(number, answer)),
     }
 }
 
@@ -79,17 +96,8 @@ fn committing(number: u16, answer: Result<Reply, Refusal>) -> Committing
     ensures number { CommitNumber number result }
 {
     match answer {
-        Ok(Reply::Committed { t: _ }) => Committing::Committed,
-        Ok(Reply::Wait { t: _, blocker }) => Committing::Wait {
-            ticket: Waiting { number },
-            blocker,
-        },
-        Ok(Reply::Deadlock { t: _ }) => Committing::Deadlock,
-        Ok(_) => unreachable(),
-        Err(refusal) => Committing::Refused {
-            ticket: Active { number },
-            refusal,
-        },
+        Ok(Reply::Committed { .. }) => Ok(()),
+        answer => Err(not_granted(number, answer)),
     }
 }
 
@@ -99,25 +107,16 @@ fn retrying(number: u16, answer: Result<Reply, Refusal>) -> Retrying
     ensures number { RetryNumber number result }
 {
     match answer {
-        Ok(Reply::Value { t: _, item, value }) => Retrying::Value {
+        Ok(Reply::Value { item, value, .. }) => Ok(Retried::Value {
             ticket: Active { number },
             item,
             value,
-        },
-        Ok(Reply::Written { t: _, item }) => Retrying::Written {
+        }),
+        Ok(Reply::Written { item, .. }) => Ok(Retried::Written {
             ticket: Active { number },
             item,
-        },
-        Ok(Reply::Committed { t: _ }) => Retrying::Committed,
-        Ok(Reply::Wait { t: _, blocker }) => Retrying::Wait {
-            ticket: Waiting { number },
-            blocker,
-        },
-        Ok(Reply::Deadlock { t: _ }) => Retrying::Deadlock,
-        Ok(_) => unreachable(),
-        Err(refusal) => Retrying::Refused {
-            ticket: Waiting { number },
-            refusal,
-        },
+        }),
+        Ok(Reply::Committed { .. }) => Ok(Retried::Committed),
+        answer => Err(not_granted(number, answer)),
     }
 }
