@@ -6,9 +6,9 @@ use Rattle.scheduler.specs.Ledger.{Answer}
 use Rattle.tickets.specs.declared.outcome.NotGranted.TheVariants.{Wait as not_wait, Deadlock as not_deadlock, Refused as not_refused}
 use Rattle.tickets.specs.declared.outcome.Retried.{Retried}
 use Rattle.tickets.specs.declared.outcome.Retried.TheVariants.{Value as retried_value, Written as retried_written, Committed as retried_committed}
-use Rattle.tickets.specs.declared.ticket.Active.{Active}
-use Rattle.tickets.specs.declared.ticket.Waiting.{Waiting}
-use Rattle.tickets.specs.Outcomes.{Outcome, outcome_answer, retried_answer, retry_answer, write_answer}
+use Rattle.tickets.specs.declared.ticket.Going.{Going}
+use Rattle.tickets.specs.declared.ticket.Held.{Held}
+use Rattle.tickets.specs.Outcomes.{Active, Outcome, Waiting, outcome_answer, retried_answer, retry_answer, write_answer}
 use Rattle.posting.specs.declared.posting.Cause.{Cause}
 use Rattle.posting.specs.declared.posting.Cause.TheVariants.{Overflow}
 use Rattle.posting.specs.declared.posting.Game.{Game}
@@ -34,7 +34,7 @@ left-waits g t = go (eqb g.retries 0) refl
     go false e = let n = eqb-false g.retries 0 e in omega arith
 
 -- of any call but a begin and an abort, from what its grant and a refusal of it make of the posting
-pub sooner_outcome : {G T : Type 0} (p : Posting) (granted : G → Answer) (t : ℕ) (o : Outcome G T) → 2 + 3 * p.game.retries ≤ steps_left p → ((x : G) → Sooner p (next p (granted x))) → ((e : Refusal) → Sooner p (refused p.game p.stage e)) → Sooner p (next p (outcome_answer granted t o))
+pub sooner_outcome : {G S : Type 0} (p : Posting) (granted : G → Answer) (t : ℕ) (o : Outcome G S) → 2 + 3 * p.game.retries ≤ steps_left p → ((x : G) → Sooner p (next p (granted x))) → ((e : Refusal) → Sooner p (refused p.game p.stage e)) → Sooner p (next p (outcome_answer granted t o))
 sooner_outcome p granted t (Ok x) h grant refusal = grant x
 sooner_outcome p granted t (Err (not_wait k b)) h grant refusal = let w = left-waits p.game t in omega arith
 sooner_outcome p granted t (Err not_deadlock) h grant refusal = omega arith
@@ -45,10 +45,10 @@ sooner_retried g k (retried_value j i v) = let h = left-summed g k.number (v +�
 sooner_retried g k (retried_written j i) = omega arith
 sooner_retried g k retried_committed = omega arith
 
-pub sooner_write : (g : Game) (k : Active) (total : ℤ) (o : Outcome Active Active) → Sooner (at g (ToWrite k total)) (next (at g (ToWrite k total)) (write_answer k.number g.team o))
+pub sooner_write : (g : Game) (k : Active) (total : ℤ) (o : Outcome Active Going) → Sooner (at g (ToWrite k total)) (next (at g (ToWrite k total)) (write_answer k.number g.team o))
 sooner_write g k total o = sooner_outcome (at g (ToWrite k total)) _ k.number o (omega arith) (λ j. omega arith) (λ e. omega arith)
 
-pub sooner_retry : (g : Game) (k : Waiting) (o : Outcome Retried Waiting) → Sooner (at g (ToRetry k)) (next (at g (ToRetry k)) (retry_answer k.number o))
+pub sooner_retry : (g : Game) (k : Waiting) (o : Outcome Retried Held) → Sooner (at g (ToRetry k)) (next (at g (ToRetry k)) (retry_answer k.number o))
 sooner_retry g k o = sooner_outcome (at g (ToRetry k)) _ k.number o (omega arith) (sooner_retried g k) (λ e. let h = left-waits g k.number in omega arith)
 
 -- of a posting whose stage is known

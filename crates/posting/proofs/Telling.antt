@@ -13,9 +13,7 @@ use Rattle.scheduler.proofs.Opens.{closed_same}
 use Rattle.tickets.specs.declared.outcome.NotGranted.TheVariants.{Wait as not_wait, Deadlock as not_deadlock, Refused as not_refused}
 use Rattle.tickets.specs.declared.outcome.Retried.{Retried}
 use Rattle.tickets.specs.declared.outcome.Retried.TheVariants.{Value as retried_value, Written as retried_written, Committed as retried_committed}
-use Rattle.tickets.specs.declared.ticket.Active.{Active}
-use Rattle.tickets.specs.declared.ticket.Waiting.{Waiting}
-use Rattle.tickets.specs.Outcomes.{Outcome, abort_answer, outcome_answer, retried_answer}
+use Rattle.tickets.specs.Outcomes.{Active, Outcome, Waiting, abort_answer, outcome_answer, retried_answer}
 use Rattle.posting.specs.declared.posting.Cause.{Cause}
 use Rattle.posting.specs.declared.posting.Cause.TheVariants.{RetriesSpent}
 use Rattle.posting.specs.declared.posting.Game.{Game}
@@ -40,7 +38,7 @@ Ends t (Ok (Deadlock u)) = u ≡ t
 Ends t (Err e) = Unit {0}
 
 -- whatever is not granted, and what is, if the answer of the grant does
-pub ends_outcome : {G T : Type 0} (granted : G → Answer) (t : ℕ) (o : Outcome G T) → ((x : G) → Ends t (granted x)) → Ends t (outcome_answer granted t o)
+pub ends_outcome : {G S : Type 0} (granted : G → Answer) (t : ℕ) (o : Outcome G S) → ((x : G) → Ends t (granted x)) → Ends t (outcome_answer granted t o)
 ends_outcome granted t (Ok x) h = h x
 ends_outcome granted t (Err (not_wait k b)) h = tt
 ends_outcome granted t (Err not_deadlock) h = refl

@@ -8,7 +8,7 @@ ghost use Rattle.tickets.specs.Outcomes.{CommitNumber, ReadNumber, RetryNumber, 
 use crate::posting::{Cause, Game, Outcome, Posting, Stage, Turn};
 use records::refusal::Refusal;
 use tickets::outcome::{Committing, Found, NotGranted, Reading, Retried, Retrying, Writing};
-use tickets::ticket::{Active, Waiting};
+use tickets::ticket::{Active, Ticket, Waiting};
 
 impl Game {
     fn going(self, stage: Stage) -> Turn
@@ -50,9 +50,9 @@ impl Game {
     }
 
     /// A call that is not granted; the caller says what a refusal makes of the ticket that it gives back.
-    fn held_up<T, F: FnOnce(T, Refusal) -> Turn + Drop>(
+    fn held_up<State, F: FnOnce(Ticket<State>, Refusal) -> Turn + Drop>(
         self,
-        why: NotGranted<T>,
+        why: NotGranted<State>,
         refused: F,
     ) -> Turn
         requires { F.IsAlwaysCallable refused }

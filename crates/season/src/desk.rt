@@ -3,14 +3,14 @@ ghost use Rattle.std.specs.Prelude.{◌-◌, ◌<◌, ◌≤◌};
 ghost use Rattle.season.specs.Weights.{HeldUp, desk_weight};
 
 use crate::TEAM;
+use crate::account::Account;
 use crate::said::Said;
 use records::refusal::Refusal;
 use scheduler::rule::LockRule;
 use scheduler::scheduler::Scheduler;
-use std::io;
 use store::store::Store;
 use tickets::outcome::{Committing, Found, NotGranted, Reading, Retried, Retrying};
-use tickets::ticket::{Active, Waiting};
+use tickets::ticket::{Active, Ticket, Waiting};
 
 pub(crate) enum Desk {
     Fresh,
@@ -37,8 +37,8 @@ fn after_begin(outcome: Result<Active, Refusal>) -> (Desk, Said)
 }
 
 // What a call that is not granted comes to, with what the desk does next with the ticket that waits and with the one that was refused.
-fn held_up<T, W: FnOnce(Waiting) -> Desk + Drop, F: FnOnce(T) -> Desk + Drop>(
-    why: NotGranted<T>,
+fn held_up<State, W: FnOnce(Waiting) -> Desk + Drop, F: FnOnce(Ticket<State>) -> Desk + Drop>(
+    why: NotGranted<State>,
     waits: W,
     refused: F,
 ) -> (Desk, Said)
@@ -96,10 +96,15 @@ fn after_abort(outcome: Result<(), Refusal>) -> (Desk, Said)
 }
 
 impl Desk {
-    fn step<S: Store, R: LockRule>(self, scheduler: &mut Scheduler<S, R>) -> (Desk, Said)
-        ensures { desk_weight result.0 ≤ desk_weight self - 1 }
+    /// Makes one step, and prints what came of it.
+    pub(crate) fn turn<S: Store, R: LockRule, P: Print>(
+        self,
+        account: &mut Account<P>,
+        scheduler: &mut Scheduler<S, R>,
+    ) -> Desk
+        ensures { desk_weight result ≤ desk_weight self - 1 }
     {
-        match self {
+        let (desk, said) = match self {
             Desk::Fresh => after_begin(Active::begin(scheduler)),
             Desk::ToRead(ticket) => after_read(ticket.read(scheduler, TEAM)),
             Desk::ToRetry(ticket) => after_retry(ticket.retry(scheduler)),
@@ -107,24 +112,9 @@ impl Desk {
             Desk::ToCommit(ticket) => after_commit(ticket.commit(scheduler)),
             Desk::ToAbort(ticket) => after_abort(ticket.abort(scheduler)),
             Desk::ToLeave(ticket) => after_abort(ticket.abort(scheduler)),
-            Desk::Done => (Desk::Done, Said::Nothing),
-        }
-    }
-
-    /// Makes one step, and prints what came of it.
-    pub(crate) fn turn<S: Store, R: LockRule>(
-        self,
-        rt: &impl Print,
-        scheduler: &mut Scheduler<S, R>,
-    ) -> (Desk, io::Result<()>)
-        ensures { desk_weight result.0 ≤ desk_weight self - 1 }
-    {
-        match self.step(scheduler) {
-            (desk, Said::Nothing) => (desk, Ok(())),
-            (desk, said) => {
-                let printed = println!(rt; "desk: {said}");
-                (desk, printed)
-            }
-        }
+            Desk::Done => return Desk::Done,
+        };
+        account.line(format_args!("desk: {said}"));
+        desk
     }
 }

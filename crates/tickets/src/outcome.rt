@@ -1,12 +1,18 @@
 // What the calls of a ticket come to, and the ticket that each leaves.
-use crate::ticket::{Active, Waiting};
+use crate::ticket::{Active, Going, Held, Ticket, Waiting};
 use records::refusal::Refusal;
 
-/// Why a call is not granted. A refusal gives back the ticket that made the call.
-pub enum NotGranted<T> {
-    Wait { ticket: Waiting, blocker: u16 },
+/// Why a call is not granted. A refusal gives back the ticket that made the call, in its state.
+pub enum NotGranted<State> {
+    Wait {
+        ticket: Waiting,
+        blocker: u16,
+    },
     Deadlock,
-    Refused { ticket: T, refusal: Refusal },
+    Refused {
+        ticket: Ticket<State>,
+        refusal: Refusal,
+    },
 }
 
 /// What a granted read leaves.
@@ -30,13 +36,13 @@ pub enum Retried {
 }
 
 /// What a read comes to.
-pub type Reading = Result<Found, NotGranted<Active>>;
+pub type Reading = Result<Found, NotGranted<Going>>;
 
 /// What a write comes to.
-pub type Writing = Result<Active, NotGranted<Active>>;
+pub type Writing = Result<Active, NotGranted<Going>>;
 
 /// What a commit comes to. A grant ends the transaction.
-pub type Committing = Result<(), NotGranted<Active>>;
+pub type Committing = Result<(), NotGranted<Going>>;
 
 /// What a retry comes to: the held request is granted, waits again, or is refused.
-pub type Retrying = Result<Retried, NotGranted<Waiting>>;
+pub type Retrying = Result<Retried, NotGranted<Held>>;

@@ -1,5 +1,5 @@
-// A transaction's ticket, in two types, and what an answer makes of it.
-ghost use Rattle.std.specs.Prelude.{◌≡◌, ℕ, ℤ};
+// A transaction's ticket, whose type says its state, and what an answer makes of it.
+ghost use Rattle.std.specs.Prelude.{◌≡◌, ℤ};
 ghost use Rattle.scheduler.specs.declared.transaction.Ask.{Ask};
 ghost use Rattle.scheduler.specs.declared.transaction.Ask.TheVariants.{Read as AskRead, Write as AskWrite, Commit as AskCommit};
 ghost use Rattle.tickets.specs.Outcomes.{CommitNumber, NotGrantedNumber, ReadNumber, RetryNumber, WriteNumber, commit_answer, not_granted_answer, read_answer, retry_answer, write_answer};
@@ -11,55 +11,49 @@ mod retries;
 use crate::outcome::{Committing, Found, NotGranted, Reading, Retried, Retrying, Writing};
 use records::refusal::Refusal;
 use scheduler::reply::Reply;
+use std::marker::PhantomData;
 
-/// The ticket of a transaction that may go on. It cannot be copied or let go: it ends with its transaction.
-pub struct Active {
+/// The ticket of a transaction in that state. It cannot be copied or let go: it ends with its transaction.
+pub struct Ticket<State> {
     number: u16,
+    state: PhantomData<State>,
 }
 
-/// The ticket of a transaction that waits, and may only retry or abort.
-pub struct Waiting {
-    number: u16,
-}
+/// The transaction may go on.
+pub struct Going;
 
-// Who sees this trait can make a ticket of any number, so it stays in this module.
-trait Ticket {
-    ghost number_of: { Self → ℕ };
+/// The transaction waits with a request that is held, and may only retry or abort.
+pub struct Held;
 
-    fn of(number: u16) -> Self
-        ensures { number_of result ≡ number };
-}
+pub type Active = Ticket<Going>;
 
-impl Ticket for Active {
-    ghost number_of = { λ k. k.number };
+pub type Waiting = Ticket<Held>;
 
-    fn of(number: u16) -> Active {
-        Active { number }
+impl<State> Ticket<State> {
+    fn of(number: u16) -> Ticket<State>
+        ensures { result.number ≡ number }
+    {
+        Ticket {
+            number,
+            state: PhantomData,
+        }
     }
 }
 
-impl Ticket for Waiting {
-    ghost number_of = { λ k. k.number };
-
-    fn of(number: u16) -> Waiting {
-        Waiting { number }
-    }
-}
-
-fn not_granted<T: Ticket>(number: u16, answer: Result<Reply, Refusal>) -> NotGranted<T>
+fn not_granted<State>(number: u16, answer: Result<Reply, Refusal>) -> NotGranted<State>
     requires { GrantsNothing number answer }
     ensures answer { answer ≡ not_granted_answer number result }
-    ensures number { NotGrantedNumber T.number_of number result }
+    ensures number { NotGrantedNumber number result }
 {
     match answer {
         Ok(Reply::Wait { blocker, .. }) => NotGranted::Wait {
-            ticket: Waiting { number },
+            ticket: Ticket::of(number),
             blocker,
         },
         Ok(Reply::Deadlock { .. }) => NotGranted::Deadlock,
         Ok(_) => unreachable!(),
         Err(refusal) => NotGranted::Refused {
-            ticket: T::of(number),
+            ticket: Ticket::of(number),
             refusal,
         },
     }
@@ -72,7 +66,7 @@ fn reading(number: u16, item: u16, answer: Result<Reply, Refusal>) -> Reading
 {
     match answer {
         Ok(Reply::Value { value, .. }) => Ok(Found {
-            ticket: Active { number },
+            ticket: Ticket::of(number),
             value,
         }),
         answer => Err(not_granted(number, answer)),
@@ -85,7 +79,7 @@ fn writing(number: u16, item: u16, answer: Result<Reply, Refusal>) -> Writing
     ensures number { WriteNumber number result }
 {
     match answer {
-        Ok(Reply::Written { .. }) => Ok(Active { number }),
+        Ok(Reply::Written { .. }) => Ok(Ticket::of(number)),
         answer => Err(not_granted(number, answer)),
     }
 }
@@ -108,12 +102,12 @@ fn retrying(number: u16, answer: Result<Reply, Refusal>) -> Retrying
 {
     match answer {
         Ok(Reply::Value { item, value, .. }) => Ok(Retried::Value {
-            ticket: Active { number },
+            ticket: Ticket::of(number),
             item,
             value,
         }),
         Ok(Reply::Written { item, .. }) => Ok(Retried::Written {
-            ticket: Active { number },
+            ticket: Ticket::of(number),
             item,
         }),
         Ok(Reply::Committed { .. }) => Ok(Retried::Committed),

@@ -4,7 +4,7 @@ use scheduler::rule::LockRule;
 use scheduler::scheduler::Scheduler;
 use store::store::Store;
 use tickets::outcome::{Committing, Found, NotGranted, Reading, Retried, Retrying, Writing};
-use tickets::ticket::{Active, Waiting};
+use tickets::ticket::{Active, Ticket, Waiting};
 
 pub(crate) enum Hand {
     Empty,
@@ -65,7 +65,10 @@ fn after_begin(outcome: Result<Active, Refusal>) -> (Hand, Said) {
     }
 }
 
-fn held_up<T: Into<Hand>>(why: NotGranted<T>) -> (Hand, Said) {
+fn held_up<State>(why: NotGranted<State>) -> (Hand, Said)
+where
+    Ticket<State>: Into<Hand>,
+{
     match why {
         NotGranted::Wait { ticket, blocker } => (ticket.into(), Said::Wait(blocker)),
         NotGranted::Deadlock => (Hand::Empty, Said::Deadlock),

@@ -165,31 +165,24 @@ fn first_wrong<S: Store, R: LockRule>(
     let mut first = Hand::Empty;
     let mut second = Hand::Empty;
     let mut wrong = None;
-    for (i, played) in moves.iter().enumerate() {
-        let (who, step, must_say, must_leave) = *played;
+    for (i, &(who, step, must_say, must_leave)) in moves.iter().enumerate() {
+        let scheduler = match who {
+            First | Second => &mut *home,
+            FirstAway | SecondAway => &mut *away,
+        };
         let (said, left) = match who {
-            First => {
-                let (hand, said) = first.play(home, step);
+            First | FirstAway => {
+                let (hand, said) = first.play(scheduler, step);
                 first = hand;
                 (said, first.left())
             }
-            FirstAway => {
-                let (hand, said) = first.play(away, step);
-                first = hand;
-                (said, first.left())
-            }
-            Second => {
-                let (hand, said) = second.play(home, step);
-                second = hand;
-                (said, second.left())
-            }
-            SecondAway => {
-                let (hand, said) = second.play(away, step);
+            Second | SecondAway => {
+                let (hand, said) = second.play(scheduler, step);
                 second = hand;
                 (said, second.left())
             }
         };
-        if wrong.is_none() && (said != must_say || left != must_leave) {
+        if wrong.is_none() && (said, left) != (must_say, must_leave) {
             wrong = Some((i, said, left));
         }
     }

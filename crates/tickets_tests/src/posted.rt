@@ -12,8 +12,11 @@ use store::store::Store;
 const NOBODY: u16 = 0;
 
 // Makes so many steps, or as many as there are.
-fn steps<S: Store, R: LockRule>(turn: Turn, scheduler: &mut Scheduler<S, R>, count: u8) -> Turn {
-    let mut turn = turn;
+fn steps<S: Store, R: LockRule>(
+    mut turn: Turn,
+    scheduler: &mut Scheduler<S, R>,
+    count: u8,
+) -> Turn {
     for _ in 0..count {
         turn = match turn {
             Turn::Going(posting) => posting.step(scheduler),
@@ -23,8 +26,7 @@ fn steps<S: Store, R: LockRule>(turn: Turn, scheduler: &mut Scheduler<S, R>, cou
     turn
 }
 
-fn finish<S: Store, R: LockRule>(turn: Turn, scheduler: &mut Scheduler<S, R>) -> Outcome {
-    let mut turn = turn;
+fn finish<S: Store, R: LockRule>(mut turn: Turn, scheduler: &mut Scheduler<S, R>) -> Outcome {
     loop {
         match turn {
             Turn::Going(posting) => turn = posting.step(scheduler),
@@ -41,8 +43,8 @@ fn told<S: Store, R: LockRule>(
     calls: &[Request],
 ) -> Outcome {
     let turn = steps(Turn::Going(posting), scheduler, before);
-    for call in calls {
-        let _ = scheduler.call(*call);
+    for &call in calls {
+        let _ = scheduler.call(call);
     }
     finish(turn, scheduler)
 }
