@@ -24,7 +24,7 @@ use Rattle.posting.specs.declared.posting.Stage.TheVariants.{Fresh, ToRead, ToWr
 use Rattle.posting.specs.declared.posting.Turn.{Turn}
 use Rattle.posting.specs.declared.posting.Turn.TheVariants.{Going, Told}
 use Rattle.posting.specs.Taken.{Gone, Taken, number}
-use Rattle.posting.specs.Turns.{at, ended, next, refused, request}
+use Rattle.posting.specs.Turns.{at, cause, ended, next, refused, request}
 
 -- if the answer ends a transaction, that is t
 abbrev pub Ends : ℕ → Answer → Type 0
@@ -53,14 +53,10 @@ pub ends_abort : (t : ℕ) (o : Result (Unit {0}) Refusal) → Ends t (abort_ans
 ends_abort t (Ok u) = refl
 ends_abort t (Err e) = tt
 
--- what an abort tells is the next turn of either stage that makes one
-pub told-give_up : (g : Game) (k : Waiting) (o : Result (Unit {0}) Refusal) → ended RetriesSpent o ≡ next (at g (ToGiveUp k)) (abort_answer k.number o)
-told-give_up g k (Ok u) = refl
-told-give_up g k (Err e) = refl
-
-pub told-abort : (g : Game) (k : Active) (c : Cause) (o : Result (Unit {0}) Refusal) → ended c o ≡ next (at g (ToAbort k c)) (abort_answer k.number o)
-told-abort g k c (Ok u) = refl
-told-abort g k c (Err e) = refl
+-- what an abort tells is the next turn, of each stage at which a refusal is told as such
+pub told : (p : Posting) (t : ℕ) (o : Result (Unit {0}) Refusal) {r : Turn} → ((e : Refusal) → refused p.game p.stage e ≡ Told (AbortRefused e)) → r ≡ ended (cause p.stage) o → r ≡ next p (abort_answer t o)
+told p t (Ok u) f h = h
+told p t (Err e) f h = h ∙ sym (f e)
 
 gone : (t u : ℕ) (s n : Situation) → u ≡ t → n.ledger ≡ struck u s.ledger → n.pending ≡ without s.pending u → Gone t n
 gone t u s n e l p =

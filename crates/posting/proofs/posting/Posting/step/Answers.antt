@@ -1,8 +1,9 @@
 use Rattle.std.proofs.Common.{sym, refl, ap, ◌∙◌, to_z-of_z, w32, SFits, to_z, of_z, rules}
 use Rattle.posting.specs.declared.posting.Stage.TheVariants.{ToRead, ToWrite, ToCommit, ToRetry, ToGiveUp, ToAbort}
 use Rattle.tickets.specs.Outcomes.{abort_answer, commit_answer, read_answer, retry_answer, write_answer}
+use Rattle.posting.specs.Turns.{at}
 use Rattle.posting.proofs.Ending.{sooner_at, sooner_retry, sooner_write}
-use Rattle.posting.proofs.Telling.{ends_abort, ends_outcome, ends_retried, taken_at, told-abort, told-give_up}
+use Rattle.posting.proofs.Telling.{ends_abort, ends_outcome, ends_retried, taken_at, told}
 use Rattle.posting.proofs.posting.Posting.step.Goals as goal
 
 pub returns-in-ToRead-clause-taken : goal.returns-in-ToRead-clause-taken
@@ -49,7 +50,7 @@ pub returns-in-ToGiveUp-clause-taken : goal.returns-in-ToGiveUp-clause-taken
 returns-in-ToGiveUp-clause-taken g c =
     let k = c.in-ToGiveUp.ticket in
     let o = c.abort.result in
-    let e = c.after_abort.ensures ∙ told-give_up c.args.self.game k o in
+    let e = told (at c.args.self.game (ToGiveUp k)) k.number o (λ x. refl) c.after_abort.ensures in
     taken_at (ToGiveUp k) k.number (abort_answer k.number o) c.in-ToGiveUp.is refl (ends_abort k.number o) c.abort.ensures.answer c.abort.ensures.step e
 
 pub returns-in-ToAbort-clause-taken : goal.returns-in-ToAbort-clause-taken
@@ -57,5 +58,5 @@ returns-in-ToAbort-clause-taken g c =
     let k = c.in-ToAbort.ticket in
     let why = c.in-ToAbort.cause in
     let o = c.abort-in-ToAbort.result in
-    let e = c.after_abort-in-ToAbort.ensures ∙ told-abort c.args.self.game k why o in
+    let e = told (at c.args.self.game (ToAbort k why)) k.number o (λ x. refl) c.after_abort-in-ToAbort.ensures in
     taken_at (ToAbort k why) k.number (abort_answer k.number o) c.in-ToAbort.is refl (ends_abort k.number o) c.abort-in-ToAbort.ensures.answer c.abort-in-ToAbort.ensures.step e
