@@ -1,5 +1,5 @@
 -- Each step leaves fewer to make.
-use Rattle.std.proofs.Common.{◌≡◌, ℕ, ◌+◌, ◌-◌, ◌*◌, ◌<◌, ◌≤◌, Bool, true, false, cond, eqb, ℤ, ◌+ℤ◌, Ok, Err, Result, sym, refl, subst, arith}
+use Rattle.std.proofs.Common.{◌≡◌, ℕ, ◌+◌, ◌-◌, ◌*◌, ◌<◌, ◌≤◌, Bool, true, false, cond, eqb, ℤ, ◌+ℤ◌, Ok, Err, sym, refl, subst, arith}
 use Rattle.std.proofs.lemmas.Bool.{eqb-false}
 use Rattle.records.specs.declared.refusal.Refusal.{Refusal}
 use Rattle.scheduler.specs.Ledger.{Answer}
@@ -9,12 +9,11 @@ use Rattle.tickets.specs.declared.outcome.Retried.TheVariants.{Value as retried_
 use Rattle.tickets.specs.declared.ticket.Going.{Going}
 use Rattle.tickets.specs.declared.ticket.Held.{Held}
 use Rattle.tickets.specs.Outcomes.{Active, Outcome, Waiting, outcome_answer, retried_answer, retry_answer, write_answer}
-use Rattle.posting.specs.declared.posting.Cause.{Cause}
 use Rattle.posting.specs.declared.posting.Cause.TheVariants.{Overflow}
 use Rattle.posting.specs.declared.posting.Game.{Game}
 use Rattle.posting.specs.declared.posting.Posting.{Posting}
 use Rattle.posting.specs.declared.posting.Stage.{Stage}
-use Rattle.posting.specs.declared.posting.Stage.TheVariants.{ToRead, ToWrite, ToCommit, ToRetry, ToGiveUp, ToAbort}
+use Rattle.posting.specs.declared.posting.Stage.TheVariants.{ToWrite, ToRetry, ToGiveUp, ToAbort}
 use Rattle.posting.specs.declared.posting.Turn.{Turn}
 use Rattle.posting.specs.Taken.{Sooner, left, steps_left}
 use Rattle.posting.specs.Turns.{active, at, game, is_value, next, refused, summed, waiting, waits}

@@ -13,9 +13,7 @@ use Rattle.scheduler.proofs.Opens.{closed_same}
 use Rattle.tickets.specs.declared.outcome.NotGranted.TheVariants.{Wait as not_wait, Deadlock as not_deadlock, Refused as not_refused}
 use Rattle.tickets.specs.declared.outcome.Retried.{Retried}
 use Rattle.tickets.specs.declared.outcome.Retried.TheVariants.{Value as retried_value, Written as retried_written, Committed as retried_committed}
-use Rattle.tickets.specs.Outcomes.{Active, Outcome, Waiting, abort_answer, outcome_answer, retried_answer}
-use Rattle.posting.specs.declared.posting.Cause.{Cause}
-use Rattle.posting.specs.declared.posting.Cause.TheVariants.{RetriesSpent}
+use Rattle.tickets.specs.Outcomes.{Outcome, abort_answer, outcome_answer, retried_answer}
 use Rattle.posting.specs.declared.posting.Game.{Game}
 use Rattle.posting.specs.declared.posting.Outcome.TheVariants.{Posted, GivenUp, NotOpened, AbortRefused}
 use Rattle.posting.specs.declared.posting.Posting.{Posting}

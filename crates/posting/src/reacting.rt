@@ -106,7 +106,13 @@ impl Game {
         ensures { (t : ℕ) → RetryNumber t outcome → result ≡ next (at self (ToRetry (waiting t))) (retry_answer t outcome) }
     {
         match outcome {
-            Ok(Retried::Value { ticket, item: _, value }) => self.going(self.sum(ticket, value)),
+            Ok(
+                Retried::Value {
+                    ticket,
+                    item: _,
+                    value,
+                },
+            ) => self.going(self.sum(ticket, value)),
             Ok(Retried::Written { ticket, item: _ }) => self.going(Stage::ToCommit(ticket)),
             Ok(Retried::Committed) => Turn::Told(Outcome::Posted),
             Err(why) => self.held_up(why, |ticket, _| self.wait(ticket)),

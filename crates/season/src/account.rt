@@ -1,6 +1,5 @@
 // The lines that are printed.
-use std::fmt;
-use std::io;
+use std::{fmt, io};
 
 /// Prints lines. Tickets cannot be let go, so the first error of printing is kept until nobody has one.
 pub(crate) struct Account<'a, P> {

@@ -66,11 +66,13 @@ fn after_retry(outcome: Retrying) -> (Desk, Said)
     ensures { desk_weight result.0 < 4 }
 {
     match outcome {
-        Ok(Retried::Value {
-            ticket,
-            item: _,
-            value,
-        }) => (Desk::Looking(ticket), Said::Total(value)),
+        Ok(
+            Retried::Value {
+                ticket,
+                item: _,
+                value,
+            },
+        ) => (Desk::Looking(ticket), Said::Total(value)),
         Ok(Retried::Written { ticket, item: _ }) => (Desk::ToCommit(ticket), Said::Looks),
         Ok(Retried::Committed) => (Desk::Done, Said::Committed),
         Err(why) => held_up(why, Desk::ToLeave, Desk::ToLeave),

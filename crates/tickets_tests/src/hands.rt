@@ -99,11 +99,13 @@ fn after_commit(outcome: Committing) -> (Hand, Said) {
 
 fn after_retry(outcome: Retrying) -> (Hand, Said) {
     match outcome {
-        Ok(Retried::Value {
-            ticket,
-            item,
-            value,
-        }) => (ticket.into(), Said::RetriedValue(item, value)),
+        Ok(
+            Retried::Value {
+                ticket,
+                item,
+                value,
+            },
+        ) => (ticket.into(), Said::RetriedValue(item, value)),
         Ok(Retried::Written { ticket, item }) => (ticket.into(), Said::RetriedWritten(item)),
         Ok(Retried::Committed) => (Hand::Empty, Said::Committed),
         Err(why) => held_up(why),

@@ -26,7 +26,7 @@ enum Who {
 type Played = (Who, Move, Said, Left);
 
 // Begin, value, written, committed, aborted.
-const GRANTED: [Played; 11] = [
+const GRANTED: &[Played] = &[
     (First, Begin, Opened, Active(1)),
     (First, Read(5), Value(0), Active(1)),
     (First, Write(5, 7), Written, Active(1)),
@@ -41,7 +41,7 @@ const GRANTED: [Played; 11] = [
 ];
 
 // A read, a write and a commit that wait, and what each retry comes to.
-const WAITS: [Played; 20] = [
+const WAITS: &[Played] = &[
     (First, Begin, Opened, Active(1)),
     (Second, Begin, Opened, Active(2)),
     (First, Write(5, 7), Written, Active(1)),
@@ -65,7 +65,7 @@ const WAITS: [Played; 20] = [
 ];
 
 // A transaction that waits is aborted.
-const ABORTED_WHILE_WAITING: [Played; 6] = [
+const ABORTED_WHILE_WAITING: &[Played] = &[
     (First, Begin, Opened, Active(1)),
     (Second, Begin, Opened, Active(2)),
     (First, Write(5, 7), Written, Active(1)),
@@ -75,7 +75,7 @@ const ABORTED_WHILE_WAITING: [Played; 6] = [
 ];
 
 // A read, a write and a commit that would close a chain of waits.
-const DEADLOCKS: [Played; 21] = [
+const DEADLOCKS: &[Played] = &[
     (First, Begin, Opened, Active(1)),
     (Second, Begin, Opened, Active(2)),
     (First, Write(0, 7), Written, Active(1)),
@@ -100,7 +100,7 @@ const DEADLOCKS: [Played; 21] = [
 ];
 
 // A refusal gives the same ticket back.
-const REFUSED: [Played; 4] = [
+const REFUSED: &[Played] = &[
     (First, Begin, Opened, Active(1)),
     (First, Read(6), Refused(NO_SUCH_ITEM), Active(1)),
     (First, Write(6, 7), Refused(NO_SUCH_ITEM), Active(1)),
@@ -108,7 +108,7 @@ const REFUSED: [Played; 4] = [
 ];
 
 // At a scheduler that has not opened it, a ticket is refused, and an abort spends it.
-const FOREIGN: [Played; 10] = [
+const FOREIGN: &[Played] = &[
     (First, Begin, Opened, Active(1)),
     (Second, Begin, Opened, Active(2)),
     (First, Write(5, 7), Written, Active(1)),
@@ -122,7 +122,7 @@ const FOREIGN: [Played; 10] = [
 ];
 
 // At a scheduler that has opened the same number, a ticket is that number.
-const JUST_A_NUMBER: [Played; 9] = [
+const JUST_A_NUMBER: &[Played] = &[
     (First, Begin, Opened, Active(1)),
     (First, Write(5, 7), Written, Active(1)),
     (SecondAway, Begin, Opened, Active(1)),
@@ -135,7 +135,7 @@ const JUST_A_NUMBER: [Played; 9] = [
 ];
 
 // An active ticket is refused where its number waits, and a waiting one where its number does not.
-const ELSEWHERE_IT_WAITS: [Played; 14] = [
+const ELSEWHERE_IT_WAITS: &[Played] = &[
     (First, Begin, Opened, Active(1)),
     (Second, Begin, Opened, Active(2)),
     (First, Write(5, 7), Written, Active(1)),
@@ -153,7 +153,7 @@ const ELSEWHERE_IT_WAITS: [Played; 14] = [
 ];
 
 // A store and a rule that do not go together.
-const NO_PAIR: [Played; 1] = [(First, Begin, Refused(PAIR), Nothing)];
+const NO_PAIR: &[Played] = &[(First, Begin, Refused(PAIR), Nothing)];
 
 // The place of the first move that comes to something else, with what it comes to. No check may fail while tickets are held, so the
 // hands are emptied before the answer is looked at.
@@ -221,42 +221,42 @@ fn in_place(rt: &impl std::process::Abort, moves: &[Played], still_open: usize) 
 
 #[test]
 fn granted(rt: HostRuntime) {
-    in_place(&rt, &GRANTED, 0);
+    in_place(&rt, GRANTED, 0);
 }
 
 #[test]
 fn waits(rt: HostRuntime) {
-    in_place(&rt, &WAITS, 0);
+    in_place(&rt, WAITS, 0);
 }
 
 #[test]
 fn aborted_while_waiting(rt: HostRuntime) {
-    in_place(&rt, &ABORTED_WHILE_WAITING, 0);
+    in_place(&rt, ABORTED_WHILE_WAITING, 0);
 }
 
 #[test]
 fn deadlocks(rt: HostRuntime) {
-    in_place(&rt, &DEADLOCKS, 0);
+    in_place(&rt, DEADLOCKS, 0);
 }
 
 #[test]
 fn refused_with_its_ticket(rt: HostRuntime) {
-    in_place(&rt, &REFUSED, 0);
+    in_place(&rt, REFUSED, 0);
 }
 
 #[test]
 fn foreign(rt: HostRuntime) {
-    in_place(&rt, &FOREIGN, 2);
+    in_place(&rt, FOREIGN, 2);
 }
 
 #[test]
 fn just_a_number(rt: HostRuntime) {
-    in_place(&rt, &JUST_A_NUMBER, 0);
+    in_place(&rt, JUST_A_NUMBER, 0);
 }
 
 #[test]
 fn elsewhere_it_waits(rt: HostRuntime) {
-    in_place(&rt, &ELSEWHERE_IT_WAITS, 1);
+    in_place(&rt, ELSEWHERE_IT_WAITS, 1);
 }
 
 #[test]
@@ -268,7 +268,7 @@ fn pair(rt: HostRuntime) {
         InPlace::open(&mut here),
         InPlace::open(&mut there),
         DeferredUpdates,
-        &NO_PAIR,
+        NO_PAIR,
         0,
     );
 }
