@@ -15,7 +15,7 @@ impl<'a, P: Print> Account<'a, P> {
         }
     }
 
-    pub(crate) fn line<L: fmt::Display + Drop>(&mut self, line: L) {
+    pub(crate) fn line(&mut self, line: impl fmt::Display + Drop) {
         let printed = println!(self.rt; "{line}");
         if self.printed.is_ok() {
             self.printed = printed;

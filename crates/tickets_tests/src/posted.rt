@@ -12,18 +12,11 @@ use store::store::Store;
 const NOBODY: u16 = 0;
 
 // Makes so many steps, or as many as there are.
-fn steps<S: Store, R: LockRule>(
-    mut turn: Turn,
-    scheduler: &mut Scheduler<S, R>,
-    count: u8,
-) -> Turn {
-    for _ in 0..count {
-        turn = match turn {
-            Turn::Going(posting) => posting.step(scheduler),
-            Turn::Told(outcome) => Turn::Told(outcome),
-        };
-    }
-    turn
+fn steps<S: Store, R: LockRule>(turn: Turn, scheduler: &mut Scheduler<S, R>, count: u8) -> Turn {
+    (0..count).fold(turn, |turn, _| match turn {
+        Turn::Going(posting) => posting.step(scheduler),
+        told => told,
+    })
 }
 
 fn finish<S: Store, R: LockRule>(mut turn: Turn, scheduler: &mut Scheduler<S, R>) -> Outcome {
