@@ -42,8 +42,10 @@ fn take_turns<S: Store, R: LockRule, P: Print>(
     }
 }
 
-fn play<S: Store + Drop, R: LockRule + Drop>(rt: &impl Print, store: S, rule: R) -> io::Result<()> {
-    let mut scheduler = Scheduler::open(store, rule);
+fn play<S: Store + Drop, R: LockRule + Drop>(
+    rt: &impl Print,
+    mut scheduler: Scheduler<S, R>,
+) -> io::Result<()> {
     let first = Lane::Playing(Posting::new(TEAM, 185, 4));
     let second = Lane::Resting {
         rounds: 1,
@@ -60,6 +62,6 @@ fn play<S: Store + Drop, R: LockRule + Drop>(rt: &impl Print, store: S, rule: R)
 
 fn main(rt: HostRuntime) -> io::Result<()> {
     let mut values = [0, 0, 0, 0, 0, 900];
-    let store = InPlace::open(&mut values);
-    play(&rt, store, WritersPassReaders)
+    let scheduler = Scheduler::open(InPlace::open(&mut values), WritersPassReaders);
+    play(&rt, scheduler)
 }

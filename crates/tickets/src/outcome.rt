@@ -1,4 +1,5 @@
-// What the calls of a ticket come to, and the ticket that each leaves.
+// What the calls of a ticket come to, and the ticket that each leaves. A pattern names every field of these, since `..` would let a
+// ticket go.
 use crate::ticket::{Active, Going, Held, Ticket, Waiting};
 use records::refusal::Refusal;
 

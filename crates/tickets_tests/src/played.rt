@@ -191,16 +191,13 @@ fn first_wrong<S: Store, R: LockRule>(
     wrong
 }
 
-fn plays<S: Store + Drop, R: LockRule + Copy>(
+fn plays<S: Store + Drop, R: LockRule + Drop>(
     rt: &impl std::process::Abort,
-    home: S,
-    away: S,
-    rule: R,
+    mut home: Scheduler<S, R>,
+    mut away: Scheduler<S, R>,
     moves: &[Played],
     still_open: usize,
 ) {
-    let mut home = Scheduler::open(home, rule);
-    let mut away = Scheduler::open(away, rule);
     assert_eq!(rt; first_wrong(&mut home, &mut away, moves), None);
     assert_eq!(rt; home.transactions().len(), still_open);
     assert_eq!(rt; away.transactions().len(), 0);
@@ -209,14 +206,9 @@ fn plays<S: Store + Drop, R: LockRule + Copy>(
 fn in_place(rt: &impl std::process::Abort, moves: &[Played], still_open: usize) {
     let mut here = [0; 6];
     let mut there = [0; 6];
-    plays(
-        rt,
-        InPlace::open(&mut here),
-        InPlace::open(&mut there),
-        WritersPassReaders,
-        moves,
-        still_open,
-    );
+    let home = Scheduler::open(InPlace::open(&mut here), WritersPassReaders);
+    let away = Scheduler::open(InPlace::open(&mut there), WritersPassReaders);
+    plays(rt, home, away, moves, still_open);
 }
 
 #[test]
@@ -263,12 +255,7 @@ fn elsewhere_it_waits(rt: HostRuntime) {
 fn pair(rt: HostRuntime) {
     let mut here = [0; 6];
     let mut there = [0; 6];
-    plays(
-        &rt,
-        InPlace::open(&mut here),
-        InPlace::open(&mut there),
-        DeferredUpdates,
-        NO_PAIR,
-        0,
-    );
+    let home = Scheduler::open(InPlace::open(&mut here), DeferredUpdates);
+    let away = Scheduler::open(InPlace::open(&mut there), DeferredUpdates);
+    plays(&rt, home, away, NO_PAIR, 0);
 }

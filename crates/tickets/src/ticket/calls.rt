@@ -1,4 +1,5 @@
-// What an active ticket allows, and what any ticket does. Each call is the scheduler's call with the ticket's number.
+// What an active ticket allows, and what any ticket does. Each call is the scheduler's call with the ticket's number, and has its three
+// clauses under their names, since one word for the three would not be plainer beside that call.
 ghost use Rattle.std.specs.Prelude.{◌≡◌};
 ghost use Rattle.records.specs.declared.request.Request.TheVariants.{Begin, Read, Write, Commit, Abort};
 ghost use Rattle.scheduler.specs.Seen.{Answered, Called, Kept};
