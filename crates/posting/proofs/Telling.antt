@@ -10,19 +10,10 @@ use Rattle.scheduler.specs.Ledger.{Answer, Ledger, asked, state_of, struck}
 use Rattle.scheduler.specs.Stepped.{Situation, Stepped}
 use Rattle.scheduler.specs.Steps.{Answers, Terms}
 use Rattle.scheduler.proofs.Opens.{closed_same}
-use Rattle.tickets.specs.declared.outcome.Committing.{Committing}
-use Rattle.tickets.specs.declared.outcome.Committing.TheVariants.{Committed as commit_committed, Wait as commit_wait, Deadlock as commit_deadlock, Refused as commit_refused}
-use Rattle.tickets.specs.declared.outcome.Reading.{Reading}
-use Rattle.tickets.specs.declared.outcome.Reading.TheVariants.{Value as read_value, Wait as read_wait, Deadlock as read_deadlock, Refused as read_refused}
-use Rattle.tickets.specs.declared.outcome.Retrying.{Retrying}
-use Rattle.tickets.specs.declared.outcome.Retrying.TheVariants.{Value as retry_value, Written as retry_written, Committed as retry_committed, Wait as retry_wait, Deadlock as retry_deadlock, Refused as retry_refused}
-use Rattle.tickets.specs.declared.outcome.Writing.{Writing}
-use Rattle.tickets.specs.declared.outcome.Writing.TheVariants.{Written as write_written, Wait as write_wait, Deadlock as write_deadlock, Refused as write_refused}
-use Rattle.tickets.specs.declared.ticket.Active.{Active}
-use Rattle.tickets.specs.declared.ticket.Waiting.{Waiting}
-use Rattle.tickets.specs.Outcomes.{abort_answer, commit_answer, read_answer, retry_answer, write_answer}
-use Rattle.posting.specs.declared.posting.Cause.{Cause}
-use Rattle.posting.specs.declared.posting.Cause.TheVariants.{RetriesSpent}
+use Rattle.tickets.specs.declared.outcome.NotGranted.TheVariants.{Wait as not_wait, Deadlock as not_deadlock, Refused as not_refused}
+use Rattle.tickets.specs.declared.outcome.Retried.{Retried}
+use Rattle.tickets.specs.declared.outcome.Retried.TheVariants.{Value as retried_value, Written as retried_written, Committed as retried_committed}
+use Rattle.tickets.specs.Outcomes.{Outcome, abort_answer, outcome_answer, retried_answer}
 use Rattle.posting.specs.declared.posting.Game.{Game}
 use Rattle.posting.specs.declared.posting.Outcome.TheVariants.{Posted, GivenUp, NotOpened, AbortRefused}
 use Rattle.posting.specs.declared.posting.Posting.{Posting}
@@ -31,7 +22,7 @@ use Rattle.posting.specs.declared.posting.Stage.TheVariants.{Fresh, ToRead, ToWr
 use Rattle.posting.specs.declared.posting.Turn.{Turn}
 use Rattle.posting.specs.declared.posting.Turn.TheVariants.{Going, Told}
 use Rattle.posting.specs.Taken.{Gone, Taken, number}
-use Rattle.posting.specs.Turns.{at, ended, next, refused, request}
+use Rattle.posting.specs.Turns.{at, cause, ended, next, refused, request}
 
 -- if the answer ends a transaction, that is t
 abbrev pub Ends : ℕ → Answer → Type 0
@@ -44,44 +35,26 @@ Ends t (Ok (Wait u b)) = Unit {0}
 Ends t (Ok (Deadlock u)) = u ≡ t
 Ends t (Err e) = Unit {0}
 
-pub ends_read : (t i : ℕ) (o : Reading) → Ends t (read_answer t i o)
-ends_read t i (read_value k v) = tt
-ends_read t i (read_wait k b) = tt
-ends_read t i read_deadlock = refl
-ends_read t i (read_refused k e) = tt
+-- whatever is not granted, and what is, if the answer of the grant does
+pub ends_outcome : {G S : Type 0} (granted : G → Answer) (t : ℕ) (o : Outcome G S) → ((x : G) → Ends t (granted x)) → Ends t (outcome_answer granted t o)
+ends_outcome granted t (Ok x) h = h x
+ends_outcome granted t (Err (not_wait k b)) h = tt
+ends_outcome granted t (Err not_deadlock) h = refl
+ends_outcome granted t (Err (not_refused k e)) h = tt
 
-pub ends_write : (t i : ℕ) (o : Writing) → Ends t (write_answer t i o)
-ends_write t i (write_written k) = tt
-ends_write t i (write_wait k b) = tt
-ends_write t i write_deadlock = refl
-ends_write t i (write_refused k e) = tt
-
-pub ends_commit : (t : ℕ) (o : Committing) → Ends t (commit_answer t o)
-ends_commit t commit_committed = refl
-ends_commit t (commit_wait k b) = tt
-ends_commit t commit_deadlock = refl
-ends_commit t (commit_refused k e) = tt
-
-pub ends_retry : (t : ℕ) (o : Retrying) → Ends t (retry_answer t o)
-ends_retry t (retry_value k i v) = tt
-ends_retry t (retry_written k i) = tt
-ends_retry t retry_committed = refl
-ends_retry t (retry_wait k b) = tt
-ends_retry t retry_deadlock = refl
-ends_retry t (retry_refused k e) = tt
+pub ends_retried : (t : ℕ) (x : Retried) → Ends t (retried_answer t x)
+ends_retried t (retried_value k i v) = tt
+ends_retried t (retried_written k i) = tt
+ends_retried t retried_committed = refl
 
 pub ends_abort : (t : ℕ) (o : Result (Unit {0}) Refusal) → Ends t (abort_answer t o)
 ends_abort t (Ok u) = refl
 ends_abort t (Err e) = tt
 
--- what an abort tells is the next turn of either stage that makes one
-pub told-give_up : (g : Game) (k : Waiting) (o : Result (Unit {0}) Refusal) → ended RetriesSpent o ≡ next (at g (ToGiveUp k)) (abort_answer k.number o)
-told-give_up g k (Ok u) = refl
-told-give_up g k (Err e) = refl
-
-pub told-abort : (g : Game) (k : Active) (c : Cause) (o : Result (Unit {0}) Refusal) → ended c o ≡ next (at g (ToAbort k c)) (abort_answer k.number o)
-told-abort g k c (Ok u) = refl
-told-abort g k c (Err e) = refl
+-- what an abort tells is the next turn, of each stage at which a refusal is told as such
+pub told : (p : Posting) (t : ℕ) (o : Result (Unit {0}) Refusal) {r : Turn} → ((e : Refusal) → refused p.game p.stage e ≡ Told (AbortRefused e)) → r ≡ ended (cause p.stage) o → r ≡ next p (abort_answer t o)
+told p t (Ok u) f h = h
+told p t (Err e) f h = h ∙ sym (f e)
 
 gone : (t u : ℕ) (s n : Situation) → u ≡ t → n.ledger ≡ struck u s.ledger → n.pending ≡ without s.pending u → Gone t n
 gone t u s n e l p =

@@ -1,12 +1,14 @@
 -- The call that a posting makes next, and what it becomes by the answer.
-use Rattle.std.specs.Prelude.{ℕ, ◌-◌, Bool, cond, ◌&&◌, ℤ, pos, negsuc, ◌+ℤ◌, Ok, Err, Result, ◌==◌, int_le}
+use Rattle.std.specs.Prelude.{◌≡◌, ℕ, ◌-◌, Bool, cond, ◌&&◌, ℤ, pos, negsuc, ◌+ℤ◌, Ok, Err, Result, ◌==◌, int_le}
 use Rattle.records.specs.declared.refusal.Refusal.{Refusal}
 use Rattle.records.specs.declared.request.Request.{Request}
 use Rattle.records.specs.declared.request.Request.TheVariants.{Begin, Read, Write, Commit, Abort, Retry}
 use Rattle.scheduler.specs.declared.reply.Reply.TheVariants.{Opened, Value, Written, Committed, Aborted, Wait, Deadlock}
 use Rattle.scheduler.specs.Ledger.{Answer}
-use Rattle.tickets.specs.declared.ticket.Active.{Active}
-use Rattle.tickets.specs.declared.ticket.Waiting.{Waiting}
+use Rattle.tickets.specs.declared.outcome.NotGranted.{NotGranted}
+use Rattle.tickets.specs.declared.outcome.NotGranted.TheVariants.{Wait as not_wait, Deadlock as not_deadlock, Refused as not_refused}
+use Rattle.tickets.specs.declared.ticket.Ticket.{Ticket}
+use Rattle.tickets.specs.Outcomes.{Active, Waiting}
 use Rattle.posting.specs.declared.posting.Cause.{Cause}
 use Rattle.posting.specs.declared.posting.Cause.TheVariants.{Overflow, RetriesSpent, Refused, Deadlock as by_deadlock}
 use Rattle.posting.specs.declared.posting.Game.{Game}
@@ -18,10 +20,10 @@ use Rattle.posting.specs.declared.posting.Turn.{Turn}
 use Rattle.posting.specs.declared.posting.Turn.TheVariants.{Going, Told}
 
 abbrev pub active : ℕ → Active
-active t = record { number = t }
+active t = record { number = t; state = record {} }
 
 abbrev pub waiting : ℕ → Waiting
-waiting t = record { number = t }
+waiting t = record { number = t; state = record {} }
 
 abbrev pub game : ℕ → ℤ → ℕ → Game
 game team pins retries = record { team = team; pins = pins; retries = retries }
@@ -90,3 +92,9 @@ next p (Ok (Aborted t)) = Told (GivenUp (cause p.stage))
 next p (Ok (Wait t b)) = Going (waits p.game t)
 next p (Ok (Deadlock t)) = Told (GivenUp by_deadlock)
 next p (Err e) = refused p.game p.stage e
+
+-- the turn after a call that is not granted; `OfRefused` says what a refusal makes of the ticket that it gives back
+abbrev pub HeldUp : {S : Type 0} → (Ticket S → Refusal → Turn → Type 0) → Game → NotGranted S → Turn → Type 0
+HeldUp OfRefused g (not_wait k b) r = r ≡ Going (waits g k.number)
+HeldUp OfRefused g not_deadlock r = r ≡ Told (GivenUp by_deadlock)
+HeldUp OfRefused g (not_refused k e) r = OfRefused k e r

@@ -41,7 +41,7 @@ pub enum Cause {
     Deadlock,
 }
 
-/// What became of a game.
+/// What became of a game. Not a `Result`: the contract of a step tells these four apart, and none is handed on by `?`.
 #[derive(Clone, Copy, PartialEq, Eq, Debug)]
 pub enum Outcome {
     Posted,
@@ -51,7 +51,7 @@ pub enum Outcome {
     AbortRefused(Refusal),
 }
 
-/// What a step comes to.
+/// What a step comes to. Not a `Result`: neither is an error.
 pub enum Turn {
     Going(Posting),
     Told(Outcome),

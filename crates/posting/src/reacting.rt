@@ -2,13 +2,13 @@
 ghost use Rattle.std.specs.Prelude.{◌≡◌, ℕ, ℤ, ◌+ℤ◌};
 ghost use Rattle.posting.specs.declared.posting.Cause.TheVariants.{Refused};
 ghost use Rattle.posting.specs.declared.posting.Stage.TheVariants.{Fresh, ToAbort, ToCommit, ToRead, ToRetry, ToWrite};
-ghost use Rattle.posting.specs.Turns.{active, at, ended, next, summed, waiting, waits};
+ghost use Rattle.posting.specs.Turns.{HeldUp, active, at, ended, next, summed, waiting, waits};
 ghost use Rattle.tickets.specs.Outcomes.{CommitNumber, ReadNumber, RetryNumber, WriteNumber, begin_answer, commit_answer, read_answer, retry_answer, write_answer};
 
 use crate::posting::{Cause, Game, Outcome, Posting, Stage, Turn};
 use records::refusal::Refusal;
-use tickets::outcome::{Committing, Reading, Retrying, Writing};
-use tickets::ticket::{Active, Waiting};
+use tickets::outcome::{Committing, Found, NotGranted, Reading, Retried, Retrying, Writing};
+use tickets::ticket::{Active, Ticket, Waiting};
 
 impl Game {
     fn going(self, stage: Stage) -> Turn
@@ -49,6 +49,22 @@ impl Game {
         })
     }
 
+    /// A call that is not granted; the caller says what a refusal makes of the ticket that it gives back.
+    fn held_up<State, F: FnOnce(Ticket<State>, Refusal) -> Turn + Drop>(
+        self,
+        why: NotGranted<State>,
+        refused: F,
+    ) -> Turn
+        requires { F.IsAlwaysCallable refused }
+        ensures { HeldUp (F.post refused) self why result }
+    {
+        match why {
+            NotGranted::Wait { ticket, blocker: _ } => self.wait(ticket),
+            NotGranted::Deadlock => Turn::Told(Outcome::GivenUp(Cause::Deadlock)),
+            NotGranted::Refused { ticket, refusal } => refused(ticket, refusal),
+        }
+    }
+
     pub(crate) fn after_begin(self, outcome: Result<Active, Refusal>) -> Turn
         ensures { result ≡ next (at self Fresh) (begin_answer outcome) }
     {
@@ -62,10 +78,8 @@ impl Game {
         ensures { (t : ℕ) → ReadNumber t outcome → result ≡ next (at self (ToRead (active t))) (read_answer t self.team outcome) }
     {
         match outcome {
-            Reading::Value { ticket, value } => self.going(self.sum(ticket, value)),
-            Reading::Wait { ticket, blocker: _ } => self.wait(ticket),
-            Reading::Deadlock => Turn::Told(Outcome::GivenUp(Cause::Deadlock)),
-            Reading::Refused { ticket, refusal } => self.give_up(ticket, refusal),
+            Ok(Found { ticket, value }) => self.going(self.sum(ticket, value)),
+            Err(why) => self.held_up(why, |ticket, refusal| self.give_up(ticket, refusal)),
         }
     }
 
@@ -73,10 +87,8 @@ impl Game {
         ensures { (t : ℕ) (total : ℤ) → WriteNumber t outcome → result ≡ next (at self (ToWrite (active t) total)) (write_answer t self.team outcome) }
     {
         match outcome {
-            Writing::Written { ticket } => self.going(Stage::ToCommit(ticket)),
-            Writing::Wait { ticket, blocker: _ } => self.wait(ticket),
-            Writing::Deadlock => Turn::Told(Outcome::GivenUp(Cause::Deadlock)),
-            Writing::Refused { ticket, refusal } => self.give_up(ticket, refusal),
+            Ok(ticket) => self.going(Stage::ToCommit(ticket)),
+            Err(why) => self.held_up(why, |ticket, refusal| self.give_up(ticket, refusal)),
         }
     }
 
@@ -84,10 +96,8 @@ impl Game {
         ensures { (t : ℕ) → CommitNumber t outcome → result ≡ next (at self (ToCommit (active t))) (commit_answer t outcome) }
     {
         match outcome {
-            Committing::Committed => Turn::Told(Outcome::Posted),
-            Committing::Wait { ticket, blocker: _ } => self.wait(ticket),
-            Committing::Deadlock => Turn::Told(Outcome::GivenUp(Cause::Deadlock)),
-            Committing::Refused { ticket, refusal } => self.give_up(ticket, refusal),
+            Ok(()) => Turn::Told(Outcome::Posted),
+            Err(why) => self.held_up(why, |ticket, refusal| self.give_up(ticket, refusal)),
         }
     }
 
@@ -96,16 +106,16 @@ impl Game {
         ensures { (t : ℕ) → RetryNumber t outcome → result ≡ next (at self (ToRetry (waiting t))) (retry_answer t outcome) }
     {
         match outcome {
-            Retrying::Value {
-                ticket,
-                item: _,
-                value,
-            } => self.going(self.sum(ticket, value)),
-            Retrying::Written { ticket, item: _ } => self.going(Stage::ToCommit(ticket)),
-            Retrying::Committed => Turn::Told(Outcome::Posted),
-            Retrying::Wait { ticket, blocker: _ } => self.wait(ticket),
-            Retrying::Deadlock => Turn::Told(Outcome::GivenUp(Cause::Deadlock)),
-            Retrying::Refused { ticket, refusal: _ } => self.wait(ticket),
+            Ok(
+                Retried::Value {
+                    ticket,
+                    item: _,
+                    value,
+                },
+            ) => self.going(self.sum(ticket, value)),
+            Ok(Retried::Written { ticket, item: _ }) => self.going(Stage::ToCommit(ticket)),
+            Ok(Retried::Committed) => Turn::Told(Outcome::Posted),
+            Err(why) => self.held_up(why, |ticket, _| self.wait(ticket)),
         }
     }
 }

@@ -1,16 +1,16 @@
 // A desk that reads the total, looks at it for a round, and ends its transaction.
 ghost use Rattle.std.specs.Prelude.{◌-◌, ◌<◌, ◌≤◌};
-ghost use Rattle.season.specs.Weights.{desk_weight};
+ghost use Rattle.season.specs.Weights.{HeldUp, desk_weight};
 
 use crate::TEAM;
+use crate::account::Account;
 use crate::said::Said;
 use records::refusal::Refusal;
 use scheduler::rule::LockRule;
 use scheduler::scheduler::Scheduler;
-use std::io;
 use store::store::Store;
-use tickets::outcome::{Committing, Reading, Retrying};
-use tickets::ticket::{Active, Waiting};
+use tickets::outcome::{Committing, Found, NotGranted, Reading, Retried, Retrying};
+use tickets::ticket::{Active, Ticket, Waiting};
 
 pub(crate) enum Desk {
     Fresh,
@@ -36,14 +36,29 @@ fn after_begin(outcome: Result<Active, Refusal>) -> (Desk, Said)
     }
 }
 
+// What a call that is not granted comes to, with what the desk does next with the ticket that waits and with the one that was refused.
+fn held_up<State, W: FnOnce(Waiting) -> Desk + Drop, F: FnOnce(Ticket<State>) -> Desk + Drop>(
+    why: NotGranted<State>,
+    waits: W,
+    refused: F,
+) -> (Desk, Said)
+    requires waits { W.IsAlwaysCallable waits }
+    requires refused { F.IsAlwaysCallable refused }
+    ensures { HeldUp (W.post waits) (F.post refused) why result.0 }
+{
+    match why {
+        NotGranted::Wait { ticket, blocker } => (waits(ticket), Said::Waits(blocker)),
+        NotGranted::Deadlock => (Desk::Done, Said::Deadlock),
+        NotGranted::Refused { ticket, refusal } => (refused(ticket), Said::Refused(refusal)),
+    }
+}
+
 fn after_read(outcome: Reading) -> (Desk, Said)
     ensures { desk_weight result.0 < 5 }
 {
     match outcome {
-        Reading::Value { ticket, value } => (Desk::Looking(ticket), Said::Total(value)),
-        Reading::Wait { ticket, blocker } => (Desk::ToRetry(ticket), Said::Waits(blocker)),
-        Reading::Deadlock => (Desk::Done, Said::Deadlock),
-        Reading::Refused { ticket, refusal } => (Desk::ToAbort(ticket), Said::Refused(refusal)),
+        Ok(Found { ticket, value }) => (Desk::Looking(ticket), Said::Total(value)),
+        Err(why) => held_up(why, Desk::ToRetry, Desk::ToAbort),
     }
 }
 
@@ -51,16 +66,16 @@ fn after_retry(outcome: Retrying) -> (Desk, Said)
     ensures { desk_weight result.0 < 4 }
 {
     match outcome {
-        Retrying::Value {
-            ticket,
-            item: _,
-            value,
-        } => (Desk::Looking(ticket), Said::Total(value)),
-        Retrying::Written { ticket, item: _ } => (Desk::ToCommit(ticket), Said::Looks),
-        Retrying::Committed => (Desk::Done, Said::Committed),
-        Retrying::Wait { ticket, blocker } => (Desk::ToLeave(ticket), Said::Waits(blocker)),
-        Retrying::Deadlock => (Desk::Done, Said::Deadlock),
-        Retrying::Refused { ticket, refusal } => (Desk::ToLeave(ticket), Said::Refused(refusal)),
+        Ok(
+            Retried::Value {
+                ticket,
+                item: _,
+                value,
+            },
+        ) => (Desk::Looking(ticket), Said::Total(value)),
+        Ok(Retried::Written { ticket, item: _ }) => (Desk::ToCommit(ticket), Said::Looks),
+        Ok(Retried::Committed) => (Desk::Done, Said::Committed),
+        Err(why) => held_up(why, Desk::ToLeave, Desk::ToLeave),
     }
 }
 
@@ -68,10 +83,8 @@ fn after_commit(outcome: Committing) -> (Desk, Said)
     ensures { desk_weight result.0 < 2 }
 {
     match outcome {
-        Committing::Committed => (Desk::Done, Said::Committed),
-        Committing::Wait { ticket, blocker } => (Desk::ToLeave(ticket), Said::Waits(blocker)),
-        Committing::Deadlock => (Desk::Done, Said::Deadlock),
-        Committing::Refused { ticket, refusal } => (Desk::ToAbort(ticket), Said::Refused(refusal)),
+        Ok(()) => (Desk::Done, Said::Committed),
+        Err(why) => held_up(why, Desk::ToLeave, Desk::ToAbort),
     }
 }
 
@@ -85,10 +98,15 @@ fn after_abort(outcome: Result<(), Refusal>) -> (Desk, Said)
 }
 
 impl Desk {
-    fn step<S: Store, R: LockRule>(self, scheduler: &mut Scheduler<S, R>) -> (Desk, Said)
-        ensures { desk_weight result.0 ≤ desk_weight self - 1 }
+    /// Makes one step, and prints what came of it.
+    pub(crate) fn turn<S: Store, R: LockRule, P: Print>(
+        self,
+        account: &mut Account<P>,
+        scheduler: &mut Scheduler<S, R>,
+    ) -> Desk
+        ensures { desk_weight result ≤ desk_weight self - 1 }
     {
-        match self {
+        let (desk, said) = match self {
             Desk::Fresh => after_begin(Active::begin(scheduler)),
             Desk::ToRead(ticket) => after_read(ticket.read(scheduler, TEAM)),
             Desk::ToRetry(ticket) => after_retry(ticket.retry(scheduler)),
@@ -96,24 +114,9 @@ impl Desk {
             Desk::ToCommit(ticket) => after_commit(ticket.commit(scheduler)),
             Desk::ToAbort(ticket) => after_abort(ticket.abort(scheduler)),
             Desk::ToLeave(ticket) => after_abort(ticket.abort(scheduler)),
-            Desk::Done => (Desk::Done, Said::Nothing),
-        }
-    }
-
-    /// Makes one step, and prints what came of it.
-    pub(crate) fn turn<S: Store, R: LockRule>(
-        self,
-        rt: &impl Print,
-        scheduler: &mut Scheduler<S, R>,
-    ) -> (Desk, io::Result<()>)
-        ensures { desk_weight result.0 ≤ desk_weight self - 1 }
-    {
-        match self.step(scheduler) {
-            (desk, Said::Nothing) => (desk, Ok(())),
-            (desk, said) => {
-                let printed = println!(rt; "desk: {said}");
-                (desk, printed)
-            }
-        }
+            Desk::Done => return Desk::Done,
+        };
+        account.line(format_args!("desk: {said}"));
+        desk
     }
 }

@@ -2,10 +2,10 @@
 ghost use Rattle.std.specs.Prelude.{◌-◌, ◌≤◌};
 ghost use Rattle.season.specs.Weights.{lane_weight};
 
+use crate::account::Account;
 use posting::posting::{Posting, Turn};
 use scheduler::rule::LockRule;
 use scheduler::scheduler::Scheduler;
-use std::io;
 use store::store::Store;
 
 pub(crate) enum Lane {
@@ -16,37 +16,34 @@ pub(crate) enum Lane {
 
 impl Lane {
     /// Makes one step, and prints the call and what came of it.
-    pub(crate) fn turn<S: Store, R: LockRule>(
+    pub(crate) fn turn<S: Store, R: LockRule, P: Print>(
         self,
-        rt: &impl Print,
+        account: &mut Account<P>,
         scheduler: &mut Scheduler<S, R>,
         name: &'static str,
-    ) -> (Lane, io::Result<()>)
-        ensures { lane_weight result.0 ≤ lane_weight self - 1 }
+    ) -> Lane
+        ensures { lane_weight result ≤ lane_weight self - 1 }
     {
         match self {
-            Lane::Resting { rounds: 0, posting } => (Lane::Playing(posting), Ok(())),
-            Lane::Resting { rounds, posting } => (
-                Lane::Resting {
-                    rounds: rounds - 1,
-                    posting,
-                },
-                Ok(()),
-            ),
+            Lane::Resting { rounds: 0, posting } => Lane::Playing(posting),
+            Lane::Resting { rounds, posting } => Lane::Resting {
+                rounds: rounds - 1,
+                posting,
+            },
             Lane::Playing(posting) => {
                 let request = posting.request();
                 match posting.step(scheduler) {
                     Turn::Going(posting) => {
-                        let said = println!(rt; "{name}: {request}: {posting}");
-                        (Lane::Playing(posting), said)
+                        account.line(format_args!("{name}: {request}: {posting}"));
+                        Lane::Playing(posting)
                     }
                     Turn::Told(outcome) => {
-                        let said = println!(rt; "{name}: {request}: {outcome}");
-                        (Lane::Done, said)
+                        account.line(format_args!("{name}: {request}: {outcome}"));
+                        Lane::Done
                     }
                 }
             }
-            Lane::Done => (Lane::Done, Ok(())),
+            Lane::Done => Lane::Done,
         }
     }
 }

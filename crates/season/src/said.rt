@@ -15,7 +15,6 @@ pub(crate) enum Said {
     Aborted,
     Deadlock,
     Refused(Refusal),
-    Nothing,
 }
 
 impl fmt::Display for Said {
@@ -31,7 +30,6 @@ impl fmt::Display for Said {
             Said::Aborted => f.write_str("has aborted"),
             Said::Deadlock => f.write_str("is ended by a deadlock"),
             Said::Refused(refusal) => write!(f, "refused, {}", refusal.reason),
-            Said::Nothing => f.write_str("has nothing to do"),
         }
     }
 }

@@ -20,9 +20,17 @@ use Rattle.tickets.specs.Replies.{ToAsk}
 refused : (t : ℕ) (x : Ask) (a : Answer) (e : Refusal) → a ≡ Err e → ToAsk t x a
 refused t x a e h = subst (λ (b : Answer). ToAsk t x b) (sym h) tt
 
--- where t is blocked, an answer that is neither its deadlock nor its wait cannot be
+-- where t is blocked, its answer is its deadlock or its wait, and so m is n if both say so
+settled : (ok : Rule) (L : Ledger) (t : ℕ) (bs : List ℕ) (a : Answer) (m n : ℕ) → Blocked ok L t bs a → (a ≡ Ok (Deadlock t) → m ≡ n) → ((b : ℕ) → a ≡ Ok (Wait t b) → m ≡ n) → m ≡ n
+settled ok L t bs a m n h d w = go (eqb m n) refl
+  where
+    go : (c : Bool) → eqb m n ≡ c → m ≡ n
+    go true e = eqb-true m n e
+    go false e = let c = h.clear (λ b i k. eqb-false m n e (d (h.circle b i k))) in w c.0 c.2
+
+-- an answer that is neither cannot be
 shut : (ok : Rule) (L : Ledger) (t : ℕ) (bs : List ℕ) (a : Answer) → Blocked ok L t bs a → (a ≡ Ok (Deadlock t) → ◌≡◌ {A = ℕ} 0 1) → ((b : ℕ) → a ≡ Ok (Wait t b) → ◌≡◌ {A = ℕ} 0 1) → ⊥
-shut ok L t bs a h d w = let c = h.clear (λ b m k. let z = d (h.circle b m k) in omega arith) in let z = w c.0 c.2 in omega arith
+shut ok L t bs a h d w = let z = settled ok L t bs a 0 1 h d w in omega arith
 
 blocked : (ok : Rule) (L : Ledger) (t : ℕ) (bs : List ℕ) (x : Ask) (a : Answer) → Blocked ok L t bs a → ToAsk t x a
 blocked ok L t bs x (Ok (Opened u)) h = shut ok L t bs _ h (λ e. cc) (λ b e. cc)
@@ -30,16 +38,8 @@ blocked ok L t bs x (Ok (Value u i v)) h = absurd (shut ok L t bs _ h (λ e. cc)
 blocked ok L t bs x (Ok (Written u i)) h = absurd (shut ok L t bs _ h (λ e. cc) (λ b e. cc))
 blocked ok L t bs x (Ok (Committed u)) h = absurd (shut ok L t bs _ h (λ e. cc) (λ b e. cc))
 blocked ok L t bs x (Ok (Aborted u)) h = shut ok L t bs _ h (λ e. cc) (λ b e. cc)
-blocked ok L t bs x (Ok (Wait u b)) h = go (eqb u t) refl
-  where
-    go : (c : Bool) → eqb u t ≡ c → u ≡ t
-    go true e = eqb-true u t e
-    go false e = absurd (shut ok L t bs _ h (λ d. cc) (λ w d. let n : u ≡ t = cc in absurd (eqb-false u t e n)))
-blocked ok L t bs x (Ok (Deadlock u)) h = go (eqb u t) refl
-  where
-    go : (c : Bool) → eqb u t ≡ c → u ≡ t
-    go true e = eqb-true u t e
-    go false e = absurd (shut ok L t bs _ h (λ d. let n : u ≡ t = cc in absurd (eqb-false u t e n)) (λ w d. cc))
+blocked ok L t bs x (Ok (Wait u b)) h = settled ok L t bs _ u t h (λ e. cc) (λ c e. cc)
+blocked ok L t bs x (Ok (Deadlock u)) h = settled ok L t bs _ u t h (λ e. cc) (λ c e. cc)
 blocked ok L t bs x (Err e) h = tt
 
 free : (k : Terms) (L : Ledger) (cs : List ℤ) (p : Writes) (t : ℕ) (x : Ask) → ToAsk t x (granted k L cs p t x)

@@ -1,25 +1,62 @@
-// A transaction's ticket, in two types, and what an answer makes of it.
+// A transaction's ticket, whose type says its state, and what an answer makes of it.
 ghost use Rattle.std.specs.Prelude.{◌≡◌, ℤ};
 ghost use Rattle.scheduler.specs.declared.transaction.Ask.{Ask};
 ghost use Rattle.scheduler.specs.declared.transaction.Ask.TheVariants.{Read as AskRead, Write as AskWrite, Commit as AskCommit};
-ghost use Rattle.tickets.specs.Outcomes.{CommitNumber, ReadNumber, RetryNumber, WriteNumber, commit_answer, read_answer, retry_answer, write_answer};
-ghost use Rattle.tickets.specs.Replies.{ToAsk};
+ghost use Rattle.tickets.specs.Outcomes.{CommitNumber, NotGrantedNumber, ReadNumber, RetryNumber, WriteNumber, commit_answer, not_granted_answer, read_answer, retry_answer, write_answer};
+ghost use Rattle.tickets.specs.Replies.{GrantsNothing, ToAsk};
 
 mod calls;
 mod retries;
 
-use crate::outcome::{Committing, Reading, Retrying, Writing};
+use crate::outcome::{Committing, Found, NotGranted, Reading, Retried, Retrying, Writing};
 use records::refusal::Refusal;
 use scheduler::reply::Reply;
+use std::marker::PhantomData;
 
-/// The ticket of a transaction that may go on. It cannot be copied or let go: it ends with its transaction.
-pub struct Active {
+/// The ticket of a transaction in that state. It cannot be copied or let go: it ends with its transaction.
+pub struct Ticket<State> {
     number: u16,
+    state: PhantomData<State>,
 }
 
-/// The ticket of a transaction that waits, and may only retry or abort.
-pub struct Waiting {
-    number: u16,
+/// The transaction may go on.
+pub struct Going;
+
+/// The transaction waits with a request that is held, and may only retry or abort.
+pub struct Held;
+
+pub type Active = Ticket<Going>;
+
+pub type Waiting = Ticket<Held>;
+
+impl<State> Ticket<State> {
+    fn of(number: u16) -> Ticket<State>
+        ensures { result.number ≡ number }
+    {
+        Ticket {
+            number,
+            state: PhantomData,
+        }
+    }
+}
+
+fn not_granted<State>(number: u16, answer: Result<Reply, Refusal>) -> NotGranted<State>
+    requires { GrantsNothing number answer }
+    ensures answer { answer ≡ not_granted_answer number result }
+    ensures number { NotGrantedNumber number result }
+{
+    match answer {
+        Ok(Reply::Wait { blocker, .. }) => NotGranted::Wait {
+            ticket: Ticket::of(number),
+            blocker,
+        },
+        Ok(Reply::Deadlock { .. }) => NotGranted::Deadlock,
+        Ok(_) => unreachable!(),
+        Err(refusal) => NotGranted::Refused {
+            ticket: Ticket::of(number),
+            refusal,
+        },
+    }
 }
 
 fn reading(number: u16, item: u16, answer: Result<Reply, Refusal>) -> Reading
@@ -28,26 +65,11 @@ fn reading(number: u16, item: u16, answer: Result<Reply, Refusal>) -> Reading
     ensures number { ReadNumber number result }
 {
     match answer {
-        Ok(
-            Reply::Value {
-                t: _,
-                item: _,
-                value,
-            },
-        ) => Reading::Value {
-            ticket: Active { number },
+        Ok(Reply::Value { value, .. }) => Ok(Found {
+            ticket: Ticket::of(number),
             value,
-        },
-        Ok(Reply::Wait { t: _, blocker }) => Reading::Wait {
-            ticket: Waiting { number },
-            blocker,
-        },
-        Ok(Reply::Deadlock { t: _ }) => Reading::Deadlock,
-        Ok(_) => unreachable(),
-        Err(refusal) => Reading::Refused {
-            ticket: Active { number },
-            refusal,
-        },
+        }),
+        answer => Err(not_granted(number, answer)),
     }
 }
 
@@ -57,19 +79,8 @@ fn writing(number: u16, item: u16, answer: Result<Reply, Refusal>) -> Writing
     ensures number { WriteNumber number result }
 {
     match answer {
-        Ok(Reply::Written { t: _, item: _ }) => Writing::Written {
-            ticket: Active { number },
-        },
-        Ok(Reply::Wait { t: _, blocker }) => Writing::Wait {
-            ticket: Waiting { number },
-            blocker,
-        },
-        Ok(Reply::Deadlock { t: _ }) => Writing::Deadlock,
-        Ok(_) => unreachable(),
-        Err(refusal) => Writing::Refused {
-            ticket: Active { number },
-            refusal,
-        },
+        Ok(Reply::Written { .. }) => Ok(Ticket::of(number)),
+        answer => Err(not_granted(number, answer)),
     }
 }
 
@@ -79,17 +90,8 @@ fn committing(number: u16, answer: Result<Reply, Refusal>) -> Committing
     ensures number { CommitNumber number result }
 {
     match answer {
-        Ok(Reply::Committed { t: _ }) => Committing::Committed,
-        Ok(Reply::Wait { t: _, blocker }) => Committing::Wait {
-            ticket: Waiting { number },
-            blocker,
-        },
-        Ok(Reply::Deadlock { t: _ }) => Committing::Deadlock,
-        Ok(_) => unreachable(),
-        Err(refusal) => Committing::Refused {
-            ticket: Active { number },
-            refusal,
-        },
+        Ok(Reply::Committed { .. }) => Ok(()),
+        answer => Err(not_granted(number, answer)),
     }
 }
 
@@ -99,25 +101,16 @@ fn retrying(number: u16, answer: Result<Reply, Refusal>) -> Retrying
     ensures number { RetryNumber number result }
 {
     match answer {
-        Ok(Reply::Value { t: _, item, value }) => Retrying::Value {
-            ticket: Active { number },
+        Ok(Reply::Value { item, value, .. }) => Ok(Retried::Value {
+            ticket: Ticket::of(number),
             item,
             value,
-        },
-        Ok(Reply::Written { t: _, item }) => Retrying::Written {
-            ticket: Active { number },
+        }),
+        Ok(Reply::Written { item, .. }) => Ok(Retried::Written {
+            ticket: Ticket::of(number),
             item,
-        },
-        Ok(Reply::Committed { t: _ }) => Retrying::Committed,
-        Ok(Reply::Wait { t: _, blocker }) => Retrying::Wait {
-            ticket: Waiting { number },
-            blocker,
-        },
-        Ok(Reply::Deadlock { t: _ }) => Retrying::Deadlock,
-        Ok(_) => unreachable(),
-        Err(refusal) => Retrying::Refused {
-            ticket: Waiting { number },
-            refusal,
-        },
+        }),
+        Ok(Reply::Committed { .. }) => Ok(Retried::Committed),
+        answer => Err(not_granted(number, answer)),
     }
 }

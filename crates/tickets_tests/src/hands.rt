@@ -3,13 +3,25 @@ use records::refusal::Refusal;
 use scheduler::rule::LockRule;
 use scheduler::scheduler::Scheduler;
 use store::store::Store;
-use tickets::outcome::{Committing, Reading, Retrying, Writing};
-use tickets::ticket::{Active, Waiting};
+use tickets::outcome::{Committing, Found, NotGranted, Reading, Retried, Retrying, Writing};
+use tickets::ticket::{Active, Ticket, Waiting};
 
 pub(crate) enum Hand {
     Empty,
     Active(Active),
     Waiting(Waiting),
+}
+
+impl From<Active> for Hand {
+    fn from(ticket: Active) -> Hand {
+        Hand::Active(ticket)
+    }
+}
+
+impl From<Waiting> for Hand {
+    fn from(ticket: Waiting) -> Hand {
+        Hand::Waiting(ticket)
+    }
 }
 
 #[derive(Clone, Copy)]
@@ -48,50 +60,55 @@ pub(crate) enum Left {
 
 fn after_begin(outcome: Result<Active, Refusal>) -> (Hand, Said) {
     match outcome {
-        Ok(ticket) => (Hand::Active(ticket), Said::Opened),
+        Ok(ticket) => (ticket.into(), Said::Opened),
         Err(refusal) => (Hand::Empty, Said::Refused(refusal)),
+    }
+}
+
+fn held_up<State>(why: NotGranted<State>) -> (Hand, Said)
+where
+    Ticket<State>: Into<Hand>,
+{
+    match why {
+        NotGranted::Wait { ticket, blocker } => (ticket.into(), Said::Wait(blocker)),
+        NotGranted::Deadlock => (Hand::Empty, Said::Deadlock),
+        NotGranted::Refused { ticket, refusal } => (ticket.into(), Said::Refused(refusal)),
     }
 }
 
 fn after_read(outcome: Reading) -> (Hand, Said) {
     match outcome {
-        Reading::Value { ticket, value } => (Hand::Active(ticket), Said::Value(value)),
-        Reading::Wait { ticket, blocker } => (Hand::Waiting(ticket), Said::Wait(blocker)),
-        Reading::Deadlock => (Hand::Empty, Said::Deadlock),
-        Reading::Refused { ticket, refusal } => (Hand::Active(ticket), Said::Refused(refusal)),
+        Ok(Found { ticket, value }) => (ticket.into(), Said::Value(value)),
+        Err(why) => held_up(why),
     }
 }
 
 fn after_write(outcome: Writing) -> (Hand, Said) {
     match outcome {
-        Writing::Written { ticket } => (Hand::Active(ticket), Said::Written),
-        Writing::Wait { ticket, blocker } => (Hand::Waiting(ticket), Said::Wait(blocker)),
-        Writing::Deadlock => (Hand::Empty, Said::Deadlock),
-        Writing::Refused { ticket, refusal } => (Hand::Active(ticket), Said::Refused(refusal)),
+        Ok(ticket) => (ticket.into(), Said::Written),
+        Err(why) => held_up(why),
     }
 }
 
 fn after_commit(outcome: Committing) -> (Hand, Said) {
     match outcome {
-        Committing::Committed => (Hand::Empty, Said::Committed),
-        Committing::Wait { ticket, blocker } => (Hand::Waiting(ticket), Said::Wait(blocker)),
-        Committing::Deadlock => (Hand::Empty, Said::Deadlock),
-        Committing::Refused { ticket, refusal } => (Hand::Active(ticket), Said::Refused(refusal)),
+        Ok(()) => (Hand::Empty, Said::Committed),
+        Err(why) => held_up(why),
     }
 }
 
 fn after_retry(outcome: Retrying) -> (Hand, Said) {
     match outcome {
-        Retrying::Value {
-            ticket,
-            item,
-            value,
-        } => (Hand::Active(ticket), Said::RetriedValue(item, value)),
-        Retrying::Written { ticket, item } => (Hand::Active(ticket), Said::RetriedWritten(item)),
-        Retrying::Committed => (Hand::Empty, Said::Committed),
-        Retrying::Wait { ticket, blocker } => (Hand::Waiting(ticket), Said::Wait(blocker)),
-        Retrying::Deadlock => (Hand::Empty, Said::Deadlock),
-        Retrying::Refused { ticket, refusal } => (Hand::Waiting(ticket), Said::Refused(refusal)),
+        Ok(
+            Retried::Value {
+                ticket,
+                item,
+                value,
+            },
+        ) => (ticket.into(), Said::RetriedValue(item, value)),
+        Ok(Retried::Written { ticket, item }) => (ticket.into(), Said::RetriedWritten(item)),
+        Ok(Retried::Committed) => (Hand::Empty, Said::Committed),
+        Err(why) => held_up(why),
     }
 }
 

@@ -27,7 +27,7 @@ enum Who {
 type Played = (Who, Move, Said, Left);
 
 // Begin, value, written, committed, aborted.
-const GRANTED: [Played; 11] = [
+const GRANTED: &[Played] = &[
     (First, Begin, Opened, Active(1)),
     (First, Read(5), Value(0), Active(1)),
     (First, Write(5, 7), Written, Active(1)),
@@ -42,7 +42,7 @@ const GRANTED: [Played; 11] = [
 ];
 
 // A read, a write and a commit that wait, and what each retry comes to.
-const WAITS: [Played; 20] = [
+const WAITS: &[Played] = &[
     (First, Begin, Opened, Active(1)),
     (Second, Begin, Opened, Active(2)),
     (First, Write(5, 7), Written, Active(1)),
@@ -66,7 +66,7 @@ const WAITS: [Played; 20] = [
 ];
 
 // A transaction that waits is aborted.
-const ABORTED_WHILE_WAITING: [Played; 6] = [
+const ABORTED_WHILE_WAITING: &[Played] = &[
     (First, Begin, Opened, Active(1)),
     (Second, Begin, Opened, Active(2)),
     (First, Write(5, 7), Written, Active(1)),
@@ -76,7 +76,7 @@ const ABORTED_WHILE_WAITING: [Played; 6] = [
 ];
 
 // A read, a write and a commit that would close a chain of waits.
-const DEADLOCKS: [Played; 21] = [
+const DEADLOCKS: &[Played] = &[
     (First, Begin, Opened, Active(1)),
     (Second, Begin, Opened, Active(2)),
     (First, Write(0, 7), Written, Active(1)),
@@ -101,7 +101,7 @@ const DEADLOCKS: [Played; 21] = [
 ];
 
 // A refusal gives the same ticket back.
-const REFUSED: [Played; 4] = [
+const REFUSED: &[Played] = &[
     (First, Begin, Opened, Active(1)),
     (First, Read(6), Refused(NO_SUCH_ITEM), Active(1)),
     (First, Write(6, 7), Refused(NO_SUCH_ITEM), Active(1)),
@@ -109,7 +109,7 @@ const REFUSED: [Played; 4] = [
 ];
 
 // At a scheduler that has not opened it, a ticket is refused, and an abort spends it.
-const FOREIGN: [Played; 10] = [
+const FOREIGN: &[Played] = &[
     (First, Begin, Opened, Active(1)),
     (Second, Begin, Opened, Active(2)),
     (First, Write(5, 7), Written, Active(1)),
@@ -123,7 +123,7 @@ const FOREIGN: [Played; 10] = [
 ];
 
 // At a scheduler that has opened the same number, a ticket is that number.
-const JUST_A_NUMBER: [Played; 9] = [
+const JUST_A_NUMBER: &[Played] = &[
     (First, Begin, Opened, Active(1)),
     (First, Write(5, 7), Written, Active(1)),
     (SecondAway, Begin, Opened, Active(1)),
@@ -136,7 +136,7 @@ const JUST_A_NUMBER: [Played; 9] = [
 ];
 
 // An active ticket is refused where its number waits, and a waiting one where its number does not.
-const ELSEWHERE_IT_WAITS: [Played; 14] = [
+const ELSEWHERE_IT_WAITS: &[Played] = &[
     (First, Begin, Opened, Active(1)),
     (Second, Begin, Opened, Active(2)),
     (First, Write(5, 7), Written, Active(1)),
@@ -154,7 +154,7 @@ const ELSEWHERE_IT_WAITS: [Played; 14] = [
 ];
 
 // A store and a rule that do not go together.
-const NO_PAIR: [Played; 1] = [(First, Begin, Refused(PAIR), Nothing)];
+const NO_PAIR: &[Played] = &[(First, Begin, Refused(PAIR), Nothing)];
 
 // The place of the first move that comes to something else, with what it comes to. No check may fail while tickets are held, so the
 // hands are emptied before the answer is looked at.
@@ -166,31 +166,24 @@ fn first_wrong<S: Store, R: LockRule>(
     let mut first = Hand::Empty;
     let mut second = Hand::Empty;
     let mut wrong = None;
-    for (i, played) in moves.iter().enumerate() {
-        let (who, step, must_say, must_leave) = *played;
+    for (i, &(who, step, must_say, must_leave)) in moves.iter().enumerate() {
+        let scheduler = match who {
+            First | Second => &mut *home,
+            FirstAway | SecondAway => &mut *away,
+        };
         let (said, left) = match who {
-            First => {
-                let (hand, said) = first.play(home, step);
+            First | FirstAway => {
+                let (hand, said) = first.play(scheduler, step);
                 first = hand;
                 (said, first.left())
             }
-            FirstAway => {
-                let (hand, said) = first.play(away, step);
-                first = hand;
-                (said, first.left())
-            }
-            Second => {
-                let (hand, said) = second.play(home, step);
-                second = hand;
-                (said, second.left())
-            }
-            SecondAway => {
-                let (hand, said) = second.play(away, step);
+            Second | SecondAway => {
+                let (hand, said) = second.play(scheduler, step);
                 second = hand;
                 (said, second.left())
             }
         };
-        if wrong.is_none() && (said != must_say || left != must_leave) {
+        if wrong.is_none() && (said, left) != (must_say, must_leave) {
             wrong = Some((i, said, left));
         }
     }
@@ -199,16 +192,13 @@ fn first_wrong<S: Store, R: LockRule>(
     wrong
 }
 
-fn plays<S: Store + Drop, R: LockRule + Copy>(
+fn plays<S: Store + Drop, R: LockRule + Drop>(
     rt: &impl std::process::Abort,
-    home: S,
-    away: S,
-    rule: R,
+    mut home: Scheduler<S, R>,
+    mut away: Scheduler<S, R>,
     moves: &[Played],
     still_open: usize,
 ) {
-    let mut home = Scheduler::open(home, rule);
-    let mut away = Scheduler::open(away, rule);
     assert_eq!(rt; first_wrong(&mut home, &mut away, moves), None);
     assert_eq!(rt; home.transactions().len(), still_open);
     assert_eq!(rt; away.transactions().len(), 0);
@@ -217,66 +207,56 @@ fn plays<S: Store + Drop, R: LockRule + Copy>(
 fn in_place(rt: &impl std::process::Abort, moves: &[Played], still_open: usize) {
     let mut here = [0; 6];
     let mut there = [0; 6];
-    plays(
-        rt,
-        InPlace::open(&mut here),
-        InPlace::open(&mut there),
-        WritersPassReaders,
-        moves,
-        still_open,
-    );
+    let home = Scheduler::open(InPlace::open(&mut here), WritersPassReaders);
+    let away = Scheduler::open(InPlace::open(&mut there), WritersPassReaders);
+    plays(rt, home, away, moves, still_open);
 }
 
 #[test]
 fn granted(rt: HostRuntime) {
-    in_place(&rt, &GRANTED, 0);
+    in_place(&rt, GRANTED, 0);
 }
 
 #[test]
 fn waits(rt: HostRuntime) {
-    in_place(&rt, &WAITS, 0);
+    in_place(&rt, WAITS, 0);
 }
 
 #[test]
 fn aborted_while_waiting(rt: HostRuntime) {
-    in_place(&rt, &ABORTED_WHILE_WAITING, 0);
+    in_place(&rt, ABORTED_WHILE_WAITING, 0);
 }
 
 #[test]
 fn deadlocks(rt: HostRuntime) {
-    in_place(&rt, &DEADLOCKS, 0);
+    in_place(&rt, DEADLOCKS, 0);
 }
 
 #[test]
 fn refused_with_its_ticket(rt: HostRuntime) {
-    in_place(&rt, &REFUSED, 0);
+    in_place(&rt, REFUSED, 0);
 }
 
 #[test]
 fn foreign(rt: HostRuntime) {
-    in_place(&rt, &FOREIGN, 2);
+    in_place(&rt, FOREIGN, 2);
 }
 
 #[test]
 fn just_a_number(rt: HostRuntime) {
-    in_place(&rt, &JUST_A_NUMBER, 0);
+    in_place(&rt, JUST_A_NUMBER, 0);
 }
 
 #[test]
 fn elsewhere_it_waits(rt: HostRuntime) {
-    in_place(&rt, &ELSEWHERE_IT_WAITS, 1);
+    in_place(&rt, ELSEWHERE_IT_WAITS, 1);
 }
 
 #[test]
 fn pair(rt: HostRuntime) {
     let mut here = [0; 6];
     let mut there = [0; 6];
-    plays(
-        &rt,
-        InPlace::open(&mut here),
-        InPlace::open(&mut there),
-        DeferredUpdates,
-        &NO_PAIR,
-        0,
-    );
+    let home = Scheduler::open(InPlace::open(&mut here), DeferredUpdates);
+    let away = Scheduler::open(InPlace::open(&mut there), DeferredUpdates);
+    plays(&rt, home, away, NO_PAIR, 0);
 }

@@ -12,20 +12,19 @@ use store::store::Store;
 /// No transaction has this number, so it sees the committed values.
 const NOBODY: u16 = 0;
 
-// Makes so many steps, or as many as there are.
-fn steps<S: Store, R: LockRule>(turn: Turn, scheduler: &mut Scheduler<S, R>, count: u8) -> Turn {
-    let mut turn = turn;
-    for _ in 0..count {
-        turn = match turn {
-            Turn::Going(posting) => posting.step(scheduler),
-            Turn::Told(outcome) => Turn::Told(outcome),
-        };
-    }
-    turn
+fn in_place(values: &mut [i32]) -> Scheduler<InPlace<'_>, WritersPassReaders> {
+    Scheduler::open(InPlace::open(values), WritersPassReaders)
 }
 
-fn finish<S: Store, R: LockRule>(turn: Turn, scheduler: &mut Scheduler<S, R>) -> Outcome {
-    let mut turn = turn;
+// Makes so many steps, or as many as there are.
+fn steps<S: Store, R: LockRule>(turn: Turn, scheduler: &mut Scheduler<S, R>, count: u8) -> Turn {
+    (0..count).fold(turn, |turn, _| match turn {
+        Turn::Going(posting) => posting.step(scheduler),
+        told => told,
+    })
+}
+
+fn finish<S: Store, R: LockRule>(mut turn: Turn, scheduler: &mut Scheduler<S, R>) -> Outcome {
     loop {
         match turn {
             Turn::Going(posting) => turn = posting.step(scheduler),
@@ -42,14 +41,13 @@ fn told<S: Store, R: LockRule>(
     calls: &[Request],
 ) -> Outcome {
     let turn = steps(Turn::Going(posting), scheduler, before);
-    for call in calls {
-        let _ = scheduler.call(*call);
+    for &call in calls {
+        let _ = scheduler.call(call);
     }
     finish(turn, scheduler)
 }
 
-fn posted<S: Store + Drop, R: LockRule + Drop>(rt: &impl Abort, store: S, rule: R) {
-    let mut scheduler = Scheduler::open(store, rule);
+fn posted<S: Store + Drop, R: LockRule + Drop>(rt: &impl Abort, mut scheduler: Scheduler<S, R>) {
     let first = told(&mut scheduler, Posting::new(5, 185, 0), 0, &[]);
     assert_eq!(rt; first, Outcome::Posted);
     let second = told(&mut scheduler, Posting::new(5, 212, 0), 0, &[]);
@@ -61,19 +59,17 @@ fn posted<S: Store + Drop, R: LockRule + Drop>(rt: &impl Abort, store: S, rule: 
 #[test]
 fn adds_up(rt: HostRuntime) {
     let mut values = [0; 6];
-    posted(&rt, InPlace::open(&mut values), WritersPassReaders);
+    posted(&rt, in_place(&mut values));
 }
 
 // Transaction 1 has written the total. The posting waits for it, once at its read and once for each of its retries.
 fn waits<S: Store + Drop, R: LockRule + Drop>(
     rt: &impl Abort,
-    store: S,
-    rule: R,
+    mut scheduler: Scheduler<S, R>,
     before: u8,
     outcome: Outcome,
     total: i32,
 ) {
-    let mut scheduler = Scheduler::open(store, rule);
     let _ = scheduler.call(Request::Begin);
     let _ = scheduler.call(Request::Write {
         t: 1,
@@ -91,14 +87,7 @@ fn waits<S: Store + Drop, R: LockRule + Drop>(
 fn posted_by_its_last_retry(rt: HostRuntime) {
     let mut values = [0; 6];
     // begin, read, retry: a retry is left.
-    waits(
-        &rt,
-        InPlace::open(&mut values),
-        WritersPassReaders,
-        3,
-        Outcome::Posted,
-        1000,
-    );
+    waits(&rt, in_place(&mut values), 3, Outcome::Posted, 1000);
 }
 
 #[test]
@@ -106,19 +95,14 @@ fn given_up_after_its_retries(rt: HostRuntime) {
     let mut values = [0; 6];
     // begin, read, retry, retry: none is left.
     let outcome = Outcome::GivenUp(Cause::RetriesSpent);
-    waits(
-        &rt,
-        InPlace::open(&mut values),
-        WritersPassReaders,
-        4,
-        outcome,
-        900,
-    );
+    waits(&rt, in_place(&mut values), 4, outcome, 900);
 }
 
 // Transaction 1 has read the total, and asks to write it when the posting has written it.
-fn deadlocked<S: Store + Drop, R: LockRule + Drop>(rt: &impl Abort, store: S, rule: R) {
-    let mut scheduler = Scheduler::open(store, rule);
+fn deadlocked<S: Store + Drop, R: LockRule + Drop>(
+    rt: &impl Abort,
+    mut scheduler: Scheduler<S, R>,
+) {
     let _ = scheduler.call(Request::Begin);
     let _ = scheduler.call(Request::Read { t: 1, item: 5 });
     let calls = [Request::Write {
@@ -134,18 +118,16 @@ fn deadlocked<S: Store + Drop, R: LockRule + Drop>(rt: &impl Abort, store: S, ru
 #[test]
 fn given_up_by_deadlock(rt: HostRuntime) {
     let mut values = [0; 6];
-    deadlocked(&rt, InPlace::open(&mut values), WritersPassReaders);
+    deadlocked(&rt, in_place(&mut values));
 }
 
 // Alone, a posting comes to this, and no transaction is open after it.
 fn alone<S: Store + Drop, R: LockRule + Drop>(
     rt: &impl Abort,
-    store: S,
-    rule: R,
+    mut scheduler: Scheduler<S, R>,
     posting: Posting,
     outcome: Outcome,
 ) {
-    let mut scheduler = Scheduler::open(store, rule);
     assert_eq!(rt; told(&mut scheduler, posting, 0, &[]), outcome);
     assert_eq!(rt; scheduler.transactions().len(), 0);
 }
@@ -154,45 +136,30 @@ fn alone<S: Store + Drop, R: LockRule + Drop>(
 fn given_up_at_overflow(rt: HostRuntime) {
     let mut values = [i32::MAX; 6];
     let outcome = Outcome::GivenUp(Cause::Overflow);
-    alone(
-        &rt,
-        InPlace::open(&mut values),
-        WritersPassReaders,
-        Posting::new(5, 1, 0),
-        outcome,
-    );
+    alone(&rt, in_place(&mut values), Posting::new(5, 1, 0), outcome);
 }
 
 #[test]
 fn given_up_when_refused(rt: HostRuntime) {
     let mut values = [0; 6];
     let outcome = Outcome::GivenUp(Cause::Refused(NO_SUCH_ITEM));
-    alone(
-        &rt,
-        InPlace::open(&mut values),
-        WritersPassReaders,
-        Posting::new(6, 1, 0),
-        outcome,
-    );
+    alone(&rt, in_place(&mut values), Posting::new(6, 1, 0), outcome);
 }
 
 #[test]
 fn not_opened(rt: HostRuntime) {
     let mut values = [0; 6];
+    let no_pair = Scheduler::open(InPlace::open(&mut values), DeferredUpdates);
     let outcome = Outcome::NotOpened(PAIR);
-    alone(
-        &rt,
-        InPlace::open(&mut values),
-        DeferredUpdates,
-        Posting::new(5, 1, 0),
-        outcome,
-    );
+    alone(&rt, no_pair, Posting::new(5, 1, 0), outcome);
 }
 
 // Begun at one scheduler and brought to another, it ends there with nothing known, and stays open where it was begun.
-fn carried_off<S: Store + Drop, R: LockRule + Copy>(rt: &impl Abort, home: S, away: S, rule: R) {
-    let mut home = Scheduler::open(home, rule);
-    let mut away = Scheduler::open(away, rule);
+fn carried_off<S: Store + Drop, R: LockRule + Drop>(
+    rt: &impl Abort,
+    mut home: Scheduler<S, R>,
+    mut away: Scheduler<S, R>,
+) {
     let turn = steps(Turn::Going(Posting::new(5, 185, 2)), &mut home, 2);
     let came = finish(turn, &mut away);
     assert_eq!(rt; came, Outcome::AbortRefused(NOT_OPEN));
@@ -203,10 +170,5 @@ fn carried_off<S: Store + Drop, R: LockRule + Copy>(rt: &impl Abort, home: S, aw
 fn abort_refused(rt: HostRuntime) {
     let mut here = [0; 6];
     let mut there = [0; 6];
-    carried_off(
-        &rt,
-        InPlace::open(&mut here),
-        InPlace::open(&mut there),
-        WritersPassReaders,
-    );
+    carried_off(&rt, in_place(&mut here), in_place(&mut there));
 }

@@ -1,4 +1,4 @@
-// The refusals that the examples meet.
+// The refusals that the examples meet, written out, since the value of a constant calls no `Layer::refusal`.
 use records::refusal::{Layer, Reason, Refusal};
 
 pub(crate) const NOT_OPEN: Refusal = Refusal {

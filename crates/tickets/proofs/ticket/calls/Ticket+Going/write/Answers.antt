@@ -1,7 +1,7 @@
 use Rattle.scheduler.specs.Steps.{terms}
 use Rattle.scheduler.specs.Tables.{ledger_of}
 use Rattle.tickets.proofs.Replying.{to_write}
-use Rattle.tickets.proofs.ticket.Active.write.Goals as goal
+use Rattle.tickets.proofs.ticket.calls.Ticket+Going.write.Goals as goal
 
 pub writing-requires : goal.writing-requires
 writing-requires g c =

@@ -1,7 +1,7 @@
 use Rattle.scheduler.specs.Steps.{terms}
 use Rattle.scheduler.specs.Tables.{ledger_of}
 use Rattle.tickets.proofs.Replying.{to_retry}
-use Rattle.tickets.proofs.ticket.Waiting.retry.Goals as goal
+use Rattle.tickets.proofs.ticket.retries.Ticket+Held.retry.Goals as goal
 
 pub retrying-requires : goal.retrying-requires
 retrying-requires g c =
