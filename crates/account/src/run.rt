@@ -36,6 +36,7 @@ fn print_open<S: Store, R: LockRule>(
 }
 
 fn print_values(rt: &impl Print, store: &impl Store) -> io::Result<()> {
+    // A store has no list of its items to go through, and `as` loses nothing: no store has more than 65,536.
     for index in 0..store.size() {
         let item = index as u16;
         if let Ok(value) = store.look(NOBODY, item)

@@ -14,7 +14,7 @@ pub(crate) struct Game {
     pub(crate) retries: u16,
 }
 
-/// What comes next, with the ticket for it.
+/// What comes next, with the ticket for it. Two variants end in an abort, since they hold tickets of different types.
 pub(crate) enum Stage {
     Fresh,
     ToRead(Active),

@@ -13,7 +13,7 @@ pub struct Placed {
     pub request: Request,
 }
 
-/// How the reading of a file ended.
+/// How the reading of a file ended. No `Option`, since a whole file is told in words too.
 #[derive(Clone, Copy, PartialEq, Eq, Debug)]
 pub enum Ending {
     Whole,

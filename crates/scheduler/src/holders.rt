@@ -13,6 +13,7 @@ use crate::tables::Tables;
 /// How many neighbouring items are looked at together.
 pub(crate) const BLOCK: u16 = 1024;
 
+// Tables by item, of fixed memory.
 /// For each item of a block, the places of those that hold locks on it.
 #[derive(Drop)]
 pub(crate) struct Holders {

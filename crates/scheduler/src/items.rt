@@ -4,6 +4,7 @@ ghost use Rattle.scheduler.specs.ItemSets.{has_item};
 
 use crate::places::Places;
 
+// A table by number, of fixed memory.
 /// A set of items: one place for each number of 16 bits.
 #[derive(Drop)]
 pub struct Items {

@@ -31,6 +31,8 @@ pub struct DeferredUpdates;
 #[derive(Clone, Copy, PartialEq, Eq, Debug)]
 pub struct Rigorous;
 
+// Each rule is a table of its own: they differ in their answers, and in no type or constant.
+
 impl LockRule for WritersPassReaders {
     ghost allows = { λ _. writers_pass_readers };
 

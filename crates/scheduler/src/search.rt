@@ -22,7 +22,7 @@ fn is_lock(lock: Lock, t: u16, item: u16, kind: Kind) -> bool
 pub(crate) fn holds(locks: &[Lock], t: u16, item: u16, kind: Kind) -> bool
     ensures { result ≡ holds t item kind locks.now }
 {
-    // A loop, since `any` takes half as long again on a full list.
+    // A loop, since `any` was slower on a full list.
     for lock in locks {
         if is_lock(*lock, t, item, kind) {
             return true;
@@ -68,7 +68,7 @@ fn bars<R: LockRule>(lock: Lock, rule: &R, t: u16, item: u16, kind: Kind) -> boo
 fn barring<R: LockRule>(locks: &[Lock], rule: &R, t: u16, item: u16, kind: Kind) -> Option<u16>
     ensures { Picked result (barring (R.allows rule.now) t item kind locks.now) }
 {
-    // A loop, since `find` takes half as long again on a full list.
+    // A loop, since `find` was slower on a full list.
     for lock in locks {
         if bars(*lock, rule, t, item, kind) {
             return Some(lock.owner);

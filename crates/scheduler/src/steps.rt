@@ -73,6 +73,9 @@ impl<S: Store, R: LockRule> Scheduler<S, R> {
         self.tables.open.as_slice()
     }
 
+    // Where a transaction stands and its number go together, as `find` gives them; the fact that ties them is of the tables, so they
+    // are no struct.
+
     /// A read that nobody blocks.
     fn grant_read(&mut self, i: usize, t: u16, item: u16) -> Result<Reply, Refusal>
         requires at { At self.old.tables.«open».items t i }

@@ -25,6 +25,7 @@ impl Ask {
     }
 }
 
+/// An enum of its own and no `Option`, since a call is matched together with it.
 #[derive(Clone, Copy, PartialEq, Eq, Debug, Default)]
 pub enum State {
     #[default]

@@ -73,6 +73,7 @@ impl Tables {
         requires holders { Holds self.now.«open».items self.now.locks.inner.items holders.now }
         ensures { More self.now.«open».items (asks (in_block holders.now.block) (R.allows rule.now) self.now.locks.inner.items) rows.old rows.new }
     {
+        // By number, since the place is what is asked for and where the row stands.
         for b in 0..self.open.len() {
             rows[b] = rows[b].union(self.asked_in(rule, holders, b));
         }

@@ -12,6 +12,7 @@ use store::store::Store;
 use tickets::outcome::{Committing, Found, NotGranted, Reading, Retried, Retrying};
 use tickets::ticket::{Active, Ticket, Waiting};
 
+/// What the desk does next. Two variants end in an abort, since they hold tickets of different types.
 pub(crate) enum Desk {
     Fresh,
     ToRead(Active),
@@ -37,6 +38,7 @@ fn after_begin(outcome: Result<Active, Refusal>) -> (Desk, Said)
 }
 
 // What a call that is not granted comes to, with what the desk does next with the ticket that waits and with the one that was refused.
+// A posting has its own such function: what they make has nothing in common.
 fn held_up<State, W: FnOnce(Waiting) -> Desk + Drop, F: FnOnce(Ticket<State>) -> Desk + Drop>(
     why: NotGranted<State>,
     waits: W,

@@ -12,6 +12,7 @@ use crate::lane::Lane;
 use posting::posting::Posting;
 use scheduler::rule::{LockRule, WritersPassReaders};
 use scheduler::scheduler::Scheduler;
+use scheduler::transaction::NOBODY;
 use std::io;
 use store::in_place::InPlace;
 use store::on_slice::OnSlice;
@@ -19,9 +20,6 @@ use store::store::Store;
 
 /// The item that holds the team's total.
 const TEAM: u16 = 5;
-
-/// No transaction has this number, so it sees the committed values.
-const NOBODY: u16 = 0;
 
 // Turns go round until nobody has a ticket.
 fn take_turns<S: Store, R: LockRule, P: Print>(

@@ -33,6 +33,7 @@ fn push_value(out: &mut Vec<u8>, item: u16, value: i32) -> Result<(), AllocError
 pub(crate) fn push_values<S: Store>(out: &mut Vec<u8>, store: &S) -> Result<(), AllocError>
     ensures { OnOk result (out.new.items ≡ out.old.items ++ bytes_of (holding 0 (laid (S.pending store.now 0) (S.committed store.now)))) }
 {
+    // A store has no list of its items to go through, and `as` loses nothing: no store has more than 65,536.
     for index in 0..store.size() {
         let item = index as u16;
         let value = store.look(NOBODY, item).unwrap();

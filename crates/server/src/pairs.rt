@@ -11,6 +11,8 @@ use store::in_place::InPlace;
 use store::on_slice::OnSlice;
 use store::private::Private;
 
+// Each says which store and which rule; a trait cannot name a store for every lifetime of its slice, so they are not one function.
+
 /// Serves an input over 1,024 zeros that are written in place; writers pass readers and exclude each other.
 pub fn serve_in_place(heap: Global, input: &[u8]) -> Result<Vec<u8>, AllocError>
     ensures { IfOk result (λ out. Outputs in_place_server input.now out.items) }

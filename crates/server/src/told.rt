@@ -6,7 +6,7 @@ use records::answer::Answer;
 use records::refusal::Refusal;
 use scheduler::reply::Reply;
 
-/// The record of the answer to the request at `place`.
+/// The record of the answer to the request at `place`. It is made of two values, so it is no `From`.
 pub fn answer_record(place: u32, answer: Result<Reply, Refusal>) -> Answer
     ensures { result ≡ told place answer }
 {

@@ -1,4 +1,4 @@
-// The refusals that the examples meet.
+// The refusals that the examples meet. A constant's value may call no function, so they are written out.
 use records::refusal::{Layer, Reason, Refusal};
 
 pub const CUT: Refusal = Refusal {

@@ -4,13 +4,11 @@ use posting::posting::{Cause, Outcome, Posting, Turn};
 use records::request::Request;
 use scheduler::rule::{DeferredUpdates, LockRule, WritersPassReaders};
 use scheduler::scheduler::Scheduler;
+use scheduler::transaction::NOBODY;
 use std::process::Abort;
 use store::in_place::InPlace;
 use store::on_slice::OnSlice;
 use store::store::Store;
-
-/// No transaction has this number, so it sees the committed values.
-const NOBODY: u16 = 0;
 
 fn in_place(values: &mut [i32]) -> Scheduler<InPlace<'_>, WritersPassReaders> {
     Scheduler::open(InPlace::open(values), WritersPassReaders)
