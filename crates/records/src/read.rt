@@ -1,4 +1,4 @@
-// The readers of requests and answers.
+// The readers of requests and answers. Kinds are bytes here, in patterns, ranges and guards, as the format has them.
 ghost use Rattle.std.specs.Prelude.{◌≡◌, ◌+◌, ◌*◌, ◌≤◌, ◌∷◌, ◌++◌, length, drop, Ok, slice_index};
 ghost use Rattle.records.specs.AnswerRecords.{read_answer, answer_bytes, body_length};
 ghost use Rattle.records.specs.Layout.{Reads, WritesBack};

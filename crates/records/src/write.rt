@@ -1,4 +1,4 @@
-// The writers of requests and answers.
+// The writers of requests and answers. Kinds are bytes here, as the format has them.
 ghost use Rattle.std.specs.Prelude.{◌≡◌, ℕ, List, ◌∷◌, ◌++◌, Ok};
 ghost use Rattle.std.specs.Int.{w32};
 ghost use Rattle.std.proofs.Common.{of_z};

@@ -3,6 +3,7 @@ ghost use Rattle.std.specs.Prelude.{◌≡◌};
 
 use records::answer::Answer;
 
+/// An enum of its own and not the records' `Answer`, since no call is answered with a closing record or has a refusal as its reply.
 #[derive(Clone, Copy, PartialEq, Eq, Debug)]
 pub enum Reply {
     Opened { t: u16 },

@@ -175,6 +175,7 @@ fn check_in_order<S: Store + Drop, R: LockRule + Drop>(rt: &impl Abort, store: S
     );
 }
 
+// A generic test cannot open a store for every lifetime of its slice, so each store has one.
 #[test]
 fn in_place(rt: HostRuntime) {
     let mut values = [0; 1024];

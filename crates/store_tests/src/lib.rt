@@ -77,6 +77,7 @@ mod tests {
         }
     }
 
+    // A generic test cannot open a store for every lifetime of its slice, so each store has one.
     #[test]
     fn sizes_in_place(rt: HostRuntime) {
         at_the_edge(&rt, &mut InPlace::open(&mut []), 0, 0);
