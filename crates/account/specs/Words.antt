@@ -3,9 +3,8 @@ use Rattle.std.specs.Prelude.{ℕ, List, ◌++◌, codes, Ok, Err}
 use Rattle.records.specs.Refusals.{refusal_text}
 use Rattle.records.specs.Words.{answer_text}
 use Rattle.scheduler.specs.Ledger.{Answer}
-use Rattle.server.specs.Told.{told}
+use Rattle.scheduler.specs.Recorded.{recorded}
 
--- only a refusal tells its place, and here it has none
 abbrev pub answered_text : Answer → List ℕ
-answered_text (Ok r) = answer_text (told 0 (Ok r))
+answered_text (Ok r) = answer_text (recorded r)
 answered_text (Err e) = codes "refused: " ++ refusal_text e

@@ -16,7 +16,8 @@ use store::in_place::InPlace;
 use store::on_slice::OnSlice;
 use store::private::Private;
 
-/// What the program is asked to tell. A word picks it, so a match says it more plainly than a closure for each.
+/// What the program is asked to tell. A word picks it, so a match says it more plainly than a closure for each; the first two say only
+/// which store and which rule, as each server does.
 #[derive(Clone, Copy)]
 enum Task {
     /// A request file, as so1 runs it.

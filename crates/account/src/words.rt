@@ -2,14 +2,11 @@
 ghost use Rattle.std.specs.Prelude.{Some};
 ghost use Rattle.account.specs.Words.{answered_text};
 
+use records::answer::Answer;
 use records::refusal::Refusal;
 use scheduler::reply::Reply;
 use scheduler::transaction::{Ask, State, Transaction};
-use server::told::answer_record;
 use std::fmt;
-
-/// Only a refusal tells its place.
-const NOWHERE: u32 = 0;
 
 /// What a request was answered.
 #[derive(Clone, Copy)]
@@ -24,7 +21,7 @@ impl fmt::Display for Answered {
 
     fn fmt<W: fmt::Write>(&self, f: &mut fmt::Formatter<W>) -> fmt::Result {
         match self.0 {
-            Ok(reply) => write!(f, "{}", answer_record(NOWHERE, Ok(reply))),
+            Ok(reply) => write!(f, "{}", Answer::from(reply)),
             Err(refusal) => write!(f, "refused: {refusal}"),
         }
     }

@@ -31,6 +31,7 @@ pub fn run<S: Store + Drop, R: LockRule + Drop>(
 {
     let mut answers = Vec::with_capacity(heap, calls.len())?;
     let mut scheduler = Scheduler::open(store, rule);
+    // A loop, since a closure would change the scheduler that it captures, and nothing would be known of it.
     for call in calls {
         let answer = scheduler.call(*call);
         answers.push_reserved(answer);

@@ -1,6 +1,7 @@
 -- The places of a number are its bits.
 use lib.Bits.{bit_and, bit_or}
 use Rattle.std.proofs.Common.{Decides, ◌≡◌, ℕ, zero, suc, ◌*◌, ◌%◌, ◌^◌, ◌<◌, ◌≤◌, min, max, Bool, true, false, not, ◌&&◌, ◌||◌, eqb, sym, refl, ap, ◌∙◌, subst, inl, inr, w64, arith}
+use Rattle.std.proofs.Math.Bool.{and-false, and-true, or-false, or-true}
 use Rattle.std.specs.Int.{bit_not, trailing_zeros}
 use Rattle.std.proofs.lemmas.Bool.{and_from, and_parts, both_ways, cases_eq, cases_lt, eq-eqb, eqb-false, ne_eqb, not-true}
 use Rattle.std.proofs.lemmas.Nat.{and_le_l}
@@ -32,28 +33,12 @@ has_or a b p = ap (λ (n : ℕ). eqb n 1) (bit_at_or a b p) ∙ has_max _ _ (bit
 pub has_and : (a b p : ℕ) → has (bit_and a b) p ≡ (has a p && has b p)
 has_and a b p = ap (λ (n : ℕ). eqb n 1) (bit_at_and a b p) ∙ has_min _ _ (bit_at-lt a p) (bit_at-lt b p)
 
-or_false : (b : Bool) → b ≡ (b || false)
-or_false true = refl
-or_false false = refl
-
-or_true : (b : Bool) → true ≡ (b || true)
-or_true true = refl
-or_true false = refl
-
-and_true : (b : Bool) → b ≡ (b && true)
-and_true true = refl
-and_true false = refl
-
-and_false : (b : Bool) → false ≡ (b && false)
-and_false true = refl
-and_false false = refl
-
 pub has_set : (n k : ℕ) → k < 64 → (p : ℕ) → has (bit_or n (1 * 2 ^ k % 2 ^ 64)) p ≡ (has n p || eqb k p)
 has_set n k l p = elim (cases_eq p k) [
   | inl e ↦
       subst (λ (q : ℕ). has (bit_or n (1 * 2 ^ k % 2 ^ 64)) q ≡ (has n q || eqb k q)) (sym e)
-      (ap (λ (x : ℕ). eqb x 1) (bit_at_set_same w64 n k l) ∙ or_true (has n k) ∙ ap (λ (b : Bool). has n k || b) (sym (eq-eqb k k refl)))
-  | inr ne ↦ ap (λ (x : ℕ). eqb x 1) (bit_at_set_other w64 n k l p ne) ∙ or_false (has n p) ∙ ap (λ (b : Bool). has n p || b) (sym (ne_eqb k p (λ e. ne (sym e))))
+      (ap (λ (x : ℕ). eqb x 1) (bit_at_set_same w64 n k l) ∙ sym (or-true (has n k)) ∙ ap (λ (b : Bool). has n k || b) (sym (eq-eqb k k refl)))
+  | inr ne ↦ ap (λ (x : ℕ). eqb x 1) (bit_at_set_other w64 n k l p ne) ∙ sym (or-false (has n p)) ∙ ap (λ (b : Bool). has n p || b) (sym (ne_eqb k p (λ e. ne (sym e))))
 ]
 
 has_above : (n p : ℕ) → n < 2 ^ 64 → 64 ≤ p → has n p ≡ false
@@ -63,9 +48,9 @@ pub has_clear : (n k : ℕ) → k < 64 → n < 2 ^ 64 → (p : ℕ) → has (bit
 has_clear n k l small p = elim (cases_eq p k) [
   | inl e ↦
       subst (λ (q : ℕ). has (bit_and n (bit_not w64 (1 * 2 ^ k % 2 ^ 64))) q ≡ (has n q && not (eqb k q))) (sym e)
-      (ap (λ (x : ℕ). eqb x 1) (bit_at_clear_same w64 n k l) ∙ and_false (has n k) ∙ ap (λ (b : Bool). has n k && not b) (sym (eq-eqb k k refl)))
+      (ap (λ (x : ℕ). eqb x 1) (bit_at_clear_same w64 n k l) ∙ sym (and-false (has n k)) ∙ ap (λ (b : Bool). has n k && not b) (sym (eq-eqb k k refl)))
   | inr ne ↦ elim (cases_lt p 64) [
-    | inl in' ↦ ap (λ (x : ℕ). eqb x 1) (bit_at_clear_other w64 n k l p in' ne) ∙ and_true (has n p) ∙ ap (λ (b : Bool). has n p && not b) (sym (ne_eqb k p (λ e. ne (sym e))))
+    | inl in' ↦ ap (λ (x : ℕ). eqb x 1) (bit_at_clear_other w64 n k l p in' ne) ∙ sym (and-true (has n p)) ∙ ap (λ (b : Bool). has n p && not b) (sym (ne_eqb k p (λ e. ne (sym e))))
     | inr out ↦ has_and n (bit_not w64 (1 * 2 ^ k % 2 ^ 64)) p ∙ ap (λ (b : Bool). b && has (bit_not w64 (1 * 2 ^ k % 2 ^ 64)) p) (has_above n p small out) ∙ sym (ap (λ (b : Bool). b && not (eqb k p)) (has_above n p small out))
   ]
 ]

@@ -1,4 +1,4 @@
-// Sets of items.
+// Sets of items. An item is widened by `as`, which loses nothing and is no call.
 ghost use Rattle.std.specs.Prelude.{◌≡◌, ℕ, false, ◌||◌, ◌==◌};
 ghost use Rattle.scheduler.specs.ItemSets.{has_item};
 

@@ -1,5 +1,5 @@
 // The lock list, with what always holds of it.
-ghost use Rattle.std.specs.Prelude.{◌≡◌, ◌<◌, true, false, not, [], ◌∷◌, ◌++◌, length, filter, nat_le};
+ghost use Rattle.std.specs.Prelude.{◌≡◌, ◌<◌, ◌≤◌, true, false, not, [], ◌∷◌, ◌++◌, length, filter, nat_le};
 ghost use Rattle.scheduler.specs.Fresh.{Fresh};
 ghost use Rattle.scheduler.specs.Ledger.{unlocked};
 ghost use Rattle.scheduler.specs.Orders.{orderly};
@@ -15,6 +15,7 @@ pub const LOCKS: usize = 2048;
 #[derive(Drop)]
 pub struct LockList {
     pub(crate) inner: ArrayVec<Lock, LOCKS>,
+    ghost fits: { length inner.items ≤ 2048 },
     ghost orderly: { orderly inner.items ≡ true },
 }
 

@@ -19,6 +19,7 @@ use crate::transaction::{Ask, State, Transaction};
 use arrayvec::ArrayVec;
 use records::refusal::{Layer, Reason, Refusal};
 
+// That a place is one of an open transaction is asked of each call: it is a fact of the tables and of the place.
 impl Tables {
     pub(crate) fn new() -> Tables
         ensures { ledger_of result ≡ empty }

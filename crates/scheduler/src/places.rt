@@ -2,6 +2,7 @@
 ghost use Rattle.std.specs.Prelude.{◌≡◌, ℕ, ◌<◌, ◌≤◌, true, not, ◌&&◌, ◌||◌, ◌==◌, Decides};
 ghost use Rattle.scheduler.specs.Bits.{has};
 
+// That a place is below 64 is asked of each call, since a place is an index as soon as it is one.
 /// A set of places below 64.
 #[derive(Clone, Copy, PartialEq, Eq, Debug)]
 pub struct Places {

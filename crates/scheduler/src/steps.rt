@@ -34,6 +34,7 @@ fn pair_refusal<S: Store, R: LockRule>(store: &S, rule: &R) -> Option<Refusal>
     None
 }
 
+// The answer, the step and what stays the same are a clause each in every step, since each is a fact of its own.
 impl<S: Store, R: LockRule> Scheduler<S, R> {
     /// A scheduler with empty tables.
     pub fn open(store: S, rule: R) -> Scheduler<S, R>

@@ -25,7 +25,7 @@ impl Ask {
     }
 }
 
-/// An enum of its own and no `Option`, since a call is matched together with it.
+/// An enum of its own and no `Option`: whether a transaction is active or waits is told in records and in words.
 #[derive(Clone, Copy, PartialEq, Eq, Debug, Default)]
 pub enum State {
     #[default]

@@ -99,12 +99,13 @@ impl Tables {
         }
     }
 
-    /// For each place, the places of those that its transaction waits for.
+    /// For each place, the places of those that its transaction waits for: a table by place, of fixed memory.
     fn wait_rows<R: LockRule>(&self, rule: &R) -> [Places; OPEN]
         ensures { Drawn (R.allows rule.now) (ledger_of self.now) result }
     {
         let mut rows = [Places::NONE; OPEN];
         let blocks = self.blocks();
+        // By number, since a set of places has no other caller that would go through it.
         for block in 0..64u16 {
             if blocks.contains(usize::from(block)) {
                 let mut holders = Holders {

@@ -17,6 +17,7 @@ const LONGEST: usize = 9;
 pub(crate) fn push_record(out: &mut Vec<u8>, answer: Answer) -> Result<(), AllocError>
     ensures { OnOk result (out.new.items ≡ out.old.items ++ answer_bytes answer) }
 {
+    // A record is written into a lent buffer and its length told, as any buffer may be lent.
     let mut bytes = [0; LONGEST];
     let n = write_answer(answer, &mut bytes).unwrap();
     out.extend_from_slice(&bytes[..n])

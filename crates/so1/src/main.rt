@@ -7,6 +7,7 @@ use server::pairs::serve_in_place;
 use std::io;
 use std::io::Write;
 
+// The two servers are programs of their own, and say only which server they are.
 fn main(rt: HostRuntime) -> io::Result<()> {
     let input = read_input(rt.alloc(), rt.stdin())?;
     let output = serve_in_place(rt.alloc(), &input)?;

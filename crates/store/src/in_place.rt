@@ -1,4 +1,5 @@
 // A store that writes into the caller's slice at once, and keeps what stood there before.
+// An item is widened by `as`, which loses nothing and is no call.
 ghost use Rattle.std.specs.Prelude.{◌≡◌, ◌≤◌, true, false, [], ◌∷◌};
 ghost use Rattle.store.specs.Entries.{apart, bounded, same_item, size_of};
 ghost use Rattle.store.specs.Slices.{committed_behind, in_place_slice, pending_in, rest};

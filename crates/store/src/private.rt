@@ -1,4 +1,5 @@
 // A store that keeps pending writes in a workspace, and touches the caller's slice only when it publishes.
+// An item is widened by `as`, which loses nothing and is no call.
 ghost use Rattle.std.specs.Prelude.{◌≡◌, ℕ, ◌≤◌, true, [], ◌∷◌};
 ghost use Rattle.store.specs.Entries.{apart, bounded, count_of, found, same_pair, size_of};
 ghost use Rattle.store.specs.Slices.{items, private_slice, rest};

@@ -1,4 +1,5 @@
 // The entries that a store keeps beside its slice, in fixed memory.
+// An item is widened by `as`, which loses nothing and is no call.
 ghost use Rattle.std.specs.Prelude.{◌≡◌, ◌≤◌, ◌<◌, ◌==◌, true, [], ◌∷◌, ◌++◌, length, filter, find, position};
 ghost use Rattle.std.specs.Option.{option_copied};
 ghost use Rattle.arrayvec.specs.ArrayVec.{array_vec_len};

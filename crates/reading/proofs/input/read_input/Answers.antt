@@ -1,4 +1,4 @@
-use Rattle.std.proofs.Common.{◌≡◌, ℕ, ◌++◌, List, [], take, IfSome, Some, None, Option, subst, ap, ◌∙◌}
+use Rattle.std.proofs.Common.{◌≡◌, ℕ, ◌++◌, List, [], take, IfSome, Some, None, Option, subst}
 use Rattle.std.specs.Option.{option_map}
 use Rattle.reading.proofs.input.read_input.Goals as goal
 
