@@ -9,7 +9,7 @@ use cevoluneth_model::laws::check_bytes;
 use cevoluneth_model::records::{Refusal, Request, RequestFile};
 use cevoluneth_model::scheduler::{Pair, Scheduler, Step};
 use cevoluneth_model::server::serve;
-use std::collections::BTreeSet;
+use std::collections::{BTreeMap, BTreeSet};
 
 /// All steps of the first `count` files of a profile, in both pairs.
 fn steps(profile: Profile, count: usize) -> Vec<(Pair, Request, Step)> {
@@ -105,7 +105,7 @@ fn room_files_fill_the_room() {
 
 #[test]
 fn chain_files_have_deadlocks_of_every_kind() {
-    let steps = steps(Profile::Chains, 62);
+    let steps = steps(Profile::Chains, 63);
     for pair in Pair::BOTH {
         let ended: Vec<_> = steps
             .iter()
@@ -117,6 +117,50 @@ fn chain_files_have_deadlocks_of_every_kind() {
         assert!(has(|request| matches!(request, Request::Commit { .. })));
         let writes = has(|request| matches!(request, Request::Write { .. }));
         assert_eq!(writes, pair == Pair::InPlace);
+    }
+}
+
+/// How many transactions stand in the longest chain that begins with `t`.
+fn chain_from(waits: &BTreeMap<u16, BTreeSet<u16>>, t: u16) -> usize {
+    let behind = waits.get(&t).into_iter().flatten();
+    1 + behind
+        .map(|&next| chain_from(waits, next))
+        .max()
+        .unwrap_or(0)
+}
+
+/// The lengths of the longest chains of waits as they stand after each wait.
+fn chain_lengths(steps: &[(Pair, Request, Step)], pair: Pair) -> BTreeSet<usize> {
+    let mut waits: BTreeMap<u16, BTreeSet<u16>> = BTreeMap::new();
+    let mut lengths = BTreeSet::new();
+    for (_, _, step) in steps.iter().filter(|step| step.0 == pair) {
+        match step {
+            // A file begins.
+            Step::Opened { t: 1 } => waits.clear(),
+            Step::Wait { t, blockers } => {
+                waits.insert(*t, blockers.clone());
+                lengths.extend(waits.keys().map(|&t| chain_from(&waits, t)).max());
+            }
+            Step::Value { t, .. } | Step::Written { t, .. } => {
+                waits.remove(t);
+            }
+            Step::Committed { t } | Step::Aborted { t } | Step::Deadlock { t } => {
+                waits.remove(t);
+                waits.values_mut().for_each(|blockers| {
+                    blockers.remove(t);
+                });
+            }
+            Step::Opened { .. } | Step::Refused(_) => {}
+        }
+    }
+    lengths
+}
+
+#[test]
+fn chain_files_have_every_length() {
+    let steps = steps(Profile::Chains, 2 * 63);
+    for pair in Pair::BOTH {
+        assert_eq!(chain_lengths(&steps, pair), (2..=64).collect());
     }
 }
 

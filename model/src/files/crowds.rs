@@ -89,7 +89,7 @@ pub fn chains(author: &mut Author, first: usize) {
     let mut length = first;
     while author.room() > 40 * length {
         chain(author, length);
-        length = author.rng.between(2, 63);
+        length = author.rng.between(2, 64);
     }
 }
 

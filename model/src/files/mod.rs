@@ -120,7 +120,7 @@ impl Profile {
             Profile::Small => crowds::small(author),
             Profile::Hot => crowds::hot(author),
             Profile::Mixed => crowds::mixed(author),
-            Profile::Chains => crowds::chains(author, 2 + index % 62),
+            Profile::Chains => crowds::chains(author, 2 + index % 63),
             Profile::Readers => crowds::readers(author),
             Profile::LockList => limits::lock_list(author),
             Profile::Room => limits::room(author),
