@@ -1,3 +1,4 @@
+pub mod Belonging
 pub mod Meaning
 pub mod Entries
 pub mod Slices

@@ -2,7 +2,8 @@
 // An item is widened by `as`, which loses nothing and is no call.
 ghost use Rattle.std.specs.Prelude.{◌≡◌, ◌≤◌, true, false, [], ◌∷◌};
 ghost use Rattle.store.specs.Entries.{apart, bounded, same_item, size_of};
-ghost use Rattle.store.specs.Slices.{committed_behind, in_place_slice, pending_in, rest};
+ghost use Rattle.store.specs.Meaning.{nothing};
+ghost use Rattle.store.specs.Slices.{committed_behind, in_place_slice, items, pending_in, rest};
 ghost use Rattle.store.specs.Soundness.{in_place_sound};
 
 use crate::on_slice::OnSlice;
@@ -18,6 +19,34 @@ pub struct InPlace<'a> {
     images: Table,
     ghost apart: { apart same_item images.entries.items ≡ true },
     ghost bounded: { bounded (size_of values.now) images.entries.items ≡ true },
+}
+
+// What `OnSlice` has, for a caller that names the type and has no trait in scope.
+impl<'a> InPlace<'a> {
+    /// Opens a store on a slice; the slice's values are the committed ones.
+    pub fn open(values: &'a mut [i32]) -> InPlace<'a>
+        ensures committed { committed_behind result.images.entries.items result.values.now ≡ items values.old }
+        ensures pending { pending_in result.images.entries.items result.values.now ≡ nothing }
+        ensures outside { rest result.values.now ≡ rest values.old }
+        ensures home { result.values.ghost_name ≡ values.entry.ghost_name }
+    {
+        OnSlice::open(values)
+    }
+
+    /// The slice as it stands: the committed values with all pending ones over them, and what are no items.
+    pub fn values(&self) -> &[i32]
+        ensures { result.now ≡ in_place_slice (committed_behind self.now.images.entries.items self.now.values.now) (pending_in self.now.images.entries.items self.now.values.now) (rest self.now.values.now) }
+    {
+        OnSlice::values(self)
+    }
+
+    /// Ends the store and gives the slice back, pending values and all.
+    pub fn close(self) -> &'a mut [i32]
+        ensures slice { result.now ≡ in_place_slice (committed_behind self.entry.images.entries.items self.entry.values.now) (pending_in self.entry.images.entries.items self.entry.values.now) (rest self.entry.values.now) }
+        ensures home { result.ghost_name ≡ self.entry.values.ghost_name }
+    {
+        OnSlice::close(self)
+    }
 }
 
 impl Store for InPlace<'_> {
@@ -84,7 +113,7 @@ impl Store for InPlace<'_> {
         match self.images.on(item) {
             None => {
                 // The share is the whole room, so the room alone decides.
-                if self.images.entries.is_full() {
+                if self.images.len() == Self::ROOM {
                     return Err(Layer::Store.refusal(Reason::NoRoom));
                 }
                 let before = self.values[i];

@@ -1,6 +1,7 @@
 //! Value stores: committed values and pending writes, behind one trait.
 #![tactic(auto)]
 
+pub mod belonging;
 pub mod in_place;
 pub mod lending;
 pub mod on_slice;

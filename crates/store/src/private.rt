@@ -2,6 +2,7 @@
 // An item is widened by `as`, which loses nothing and is no call.
 ghost use Rattle.std.specs.Prelude.{◌≡◌, ℕ, ◌≤◌, true, [], ◌∷◌};
 ghost use Rattle.store.specs.Entries.{apart, bounded, count_of, found, same_pair, size_of};
+ghost use Rattle.store.specs.Meaning.{nothing};
 ghost use Rattle.store.specs.Slices.{items, private_slice, rest};
 ghost use Rattle.store.specs.Soundness.{private_sound};
 
@@ -18,6 +19,34 @@ pub struct Private<'a> {
     ghost apart: { apart same_pair writes.entries.items ≡ true },
     ghost bounded: { bounded (size_of values.now) writes.entries.items ≡ true },
     ghost shares: { (t : ℕ) → count_of t writes.entries.items ≤ 64 },
+}
+
+// What `OnSlice` has, for a caller that names the type and has no trait in scope.
+impl<'a> Private<'a> {
+    /// Opens a store on a slice; the slice's values are the committed ones.
+    pub fn open(values: &'a mut [i32]) -> Private<'a>
+        ensures committed { items result.values.now ≡ items values.old }
+        ensures pending { found result.writes.entries.items ≡ nothing }
+        ensures outside { rest result.values.now ≡ rest values.old }
+        ensures home { result.values.ghost_name ≡ values.entry.ghost_name }
+    {
+        OnSlice::open(values)
+    }
+
+    /// The slice as it stands: the committed values, and what are no items.
+    pub fn values(&self) -> &[i32]
+        ensures { result.now ≡ private_slice (items self.now.values.now) (rest self.now.values.now) }
+    {
+        OnSlice::values(self)
+    }
+
+    /// Ends the store and gives the slice back; pending writes are lost.
+    pub fn close(self) -> &'a mut [i32]
+        ensures slice { result.now ≡ private_slice (items self.entry.values.now) (rest self.entry.values.now) }
+        ensures home { result.ghost_name ≡ self.entry.values.ghost_name }
+    {
+        OnSlice::close(self)
+    }
 }
 
 impl Store for Private<'_> {
@@ -84,7 +113,7 @@ impl Store for Private<'_> {
             self.writes.replace(k, value);
             return Ok(());
         }
-        if self.writes.entries.is_full() || self.writes.count(t) >= Self::SHARE {
+        if self.writes.len() == Self::ROOM || self.writes.count(t) >= Self::SHARE {
             return Err(Layer::Store.refusal(Reason::NoRoom));
         }
         self.writes.push(t, item, value);

@@ -5,6 +5,7 @@ ghost use Rattle.std.specs.Option.{option_copied};
 ghost use Rattle.arrayvec.specs.ArrayVec.{array_vec_len};
 ghost use Rattle.store.specs.Entries.{bounded, count_of, entry, found, is_on, is_pair, landed, others, revalued};
 
+use crate::belonging::{Belongs, let_go};
 use arrayvec::ArrayVec;
 
 /// A value that is kept for a transaction and an item.
@@ -13,6 +14,14 @@ pub(crate) struct Entry {
     pub(crate) owner: u16,
     pub(crate) item: u16,
     pub(crate) value: i32,
+}
+
+impl Belongs for Entry {
+    ghost owner = { λ e. e.owner };
+
+    fn owner(self) -> u16 {
+        self.owner
+    }
 }
 
 /// How many entries a table has room for.
@@ -36,6 +45,12 @@ impl Table {
         Table {
             entries: ArrayVec::new(),
         }
+    }
+
+    pub(crate) fn len(&self) -> usize
+        ensures { result ≡ length self.now.entries.items }
+    {
+        self.entries.len()
     }
 
     /// The transaction's value on the item.
@@ -91,7 +106,7 @@ impl Table {
     pub(crate) fn forget(&mut self, t: u16)
         ensures { self.new.entries.items ≡ filter (others t) self.old.entries.items }
     {
-        self.entries.retain(|e| e.owner != t);
+        let_go(&mut self.entries, t);
     }
 
     /// Puts the values of the transaction's entries into their places.

@@ -1,10 +1,10 @@
 use Rattle.std.proofs.Common.{◌≡◌, ◌<◌, List, [], ◌∷◌, ◌++◌, length, get_or, set, ℤ, pos, Some, None, Err, false, sym, ap, ◌∙◌, find, arith, w32, SFits, rules}
-use Rattle.std.proofs.lemmas.Bool.{eq-eqb, eqb-true, eqb-false}
+use Rattle.std.proofs.lemmas.Bool.{eq-eqb}
 use Rattle.std.proofs.lemmas.Int.{to_z-of_z}
 use Rattle.std.proofs.lemmas.List.{drop-set-lt}
 use Rattle.store.proofs.Images.{again_behind, again_pending, first_behind, first-pending, length_behind}
 use Rattle.store.proofs.in_place.InPlaceStore.put.Goals as goal
-use Rattle.store.proofs.in_place.InPlaceStore.put.Goals.{in-None+else-is_full, in-Some+else-image-t}
+use Rattle.store.proofs.in_place.InPlaceStore.put.Goals.{in-None+else-len-eq-ROOM, in-Some+else-image-t}
 use Rattle.store.proofs.Kept.{apart-push, bounded-push, nat_eq_flip}
 use Rattle.store.proofs.Puts.{put_again, put_full, put-new, put-taken}
 use Rattle.store.specs.declared.in_place.InPlace.{InPlace}
@@ -16,14 +16,14 @@ use Rattle.store.specs.Slices.{committed_behind, pending_in}
 pub bounds-self-i : goal.bounds-self-i
 bounds-self-i c = let s = c.args.self.now in omega (arith, length_behind s.images.entries.items s.values.now)
 
-pub returns-then-is_full-clause-answer : goal.returns-then-is_full-clause-answer
-returns-then-is_full-clause-answer c =
+pub returns-then-len-eq-ROOM-clause-answer : goal.returns-then-len-eq-ROOM-clause-answer
+returns-then-len-eq-ROOM-clause-answer c =
     let s = c.args.self.now in
     let es = s.images.entries.items in
     let vs = s.values.now in
     let in' : c.args.item < size_of vs = omega (arith, length_behind es vs) in
-    let full : length es ≡ 512 = eqb-true _ 512 (sym c.is_full.ensures.value ∙ c.if-is_full.true) in
-    ap Err c.refusal-then-is_full.ensures ∙ sym (ap answered (put_full es vs c.args.t c.args.item s.images.fits s.bounded s.apart in' (sym c.in-None.ensures) full))
+    let full : length es ≡ 512 = omega (arith, c.len.ensures, c.if-len-eq-ROOM.true) in
+    ap Err c.refusal-then-len-eq-ROOM.ensures ∙ sym (ap answered (put_full es vs c.args.t c.args.item s.images.fits s.bounded s.apart in' (sym c.in-None.ensures) full))
 
 pub returns-then-image-t-clause-answer : goal.returns-then-image-t-clause-answer
 returns-then-image-t-clause-answer c =
@@ -50,7 +50,7 @@ bounds-self-i-2 c =
     let s = c.args.self.now in
     let m = c.match-on.self in
     let same : m.values ≡ s.values = elim c.match-on.branch [
-      | in-None+else-is_full w ↦ ap (λ (n : InPlace). n.values) w.self-is
+      | in-None+else-len-eq-ROOM w ↦ ap (λ (n : InPlace). n.values) w.self-is
       | in-Some+else-image-t w ↦ ap (λ (n : InPlace). n.values) w.self-is
     ] in
     rw same (omega (arith, length_behind s.images.entries.items s.values.now))
@@ -70,9 +70,9 @@ returns c =
     let x = get_or vs i (pos 0) in
     let way : (fs : List Entry) × (m.images.entries.items ≡ fs) × (m.values ≡ s.values) × (refused false 512 512 (committed_behind es vs) (pending_in es vs) t i ≡ None) × (committed_behind fs (set vs i v) ≡ committed_behind es vs) × (pending_in fs (set vs i v) ≡ written (pending_in es vs) t i v) =
     elim c.match-on.branch [
-      | in-None+else-is_full w ↦
+      | in-None+else-len-eq-ROOM w ↦
           let none : find (is_on i) es ≡ None = sym w.in-None.ensures in
-          let room : length es < 512 = omega (arith, few, eqb-false (length es) 512 (sym w.is_full.ensures.value ∙ w.if-is_full.false)) in
+          let room : length es < 512 = omega (arith, few, w.len.ensures, w.if-len-eq-ROOM.false) in
           let fits : SFits w32 x = search rules in
           (es ++ entry t i x ∷ [], ap (λ (n : InPlace). n.images.entries.items) w.self-is ∙ w.push.ensures ∙ ap (λ (y : ℤ). es ++ entry t i y ∷ []) (to_z-of_z w32 x fits), ap (λ (n : InPlace). n.values) w.self-is, put-new es vs t i few low s.apart in' none room, first_behind es vs t i v in' none, first-pending es vs t i v in' none)
       | in-Some+else-image-t w ↦

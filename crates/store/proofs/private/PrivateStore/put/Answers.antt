@@ -1,13 +1,12 @@
 use Rattle.std.proofs.Common.{◌≡◌, ◌<◌, true, length, get_or, Some, None, Err, sym, refl, ap, ◌∙◌, arith, w32}
 use Rattle.records.specs.declared.refusal.Reason.TheVariants.{NoRoom}
-use Rattle.std.proofs.lemmas.Bool.{eqb-false, eqb-true}
 use Rattle.std.proofs.lemmas.Int.{to_z-of_z}
 use Rattle.std.proofs.lemmas.List.Quantifiers.{position-Some}
 use Rattle.std.specs.Option.{option_map}
 use Rattle.store.proofs.Kept.{apart-push, apart-revalued, bounded-push, bounded-revalued, count-revalued}
 use Rattle.store.proofs.Landing.{length_items}
 use Rattle.store.proofs.private.PrivateStore.put.Goals as goal
-use Rattle.store.proofs.private.PrivateStore.put.Goals.{then-is_full-via-else-is_full+then-count-ge-SHARE, then-is_full-via-then-is_full}
+use Rattle.store.proofs.private.PrivateStore.put.Goals.{then-len-eq-ROOM-via-else-len-eq-ROOM+then-count-ge-SHARE, then-len-eq-ROOM-via-then-len-eq-ROOM}
 use Rattle.store.proofs.Replies.{put_again, put_full, put-new, put_over}
 use Rattle.store.proofs.Scans.{find-None, find-Some}
 use Rattle.store.proofs.Workspace.{found-pushed, found-revalued, pair_flip, shares-push}
@@ -39,8 +38,8 @@ returns-in-Some c =
       place = refl;
     }
 
-pub returns-then-is_full-clause-answer : goal.returns-then-is_full-clause-answer
-returns-then-is_full-clause-answer c =
+pub returns-then-len-eq-ROOM-clause-answer : goal.returns-then-len-eq-ROOM-clause-answer
+returns-then-len-eq-ROOM-clause-answer c =
     let s = c.args.self.now in
     let es = s.writes.entries.items in
     let vs = s.values.now in
@@ -48,11 +47,11 @@ returns-then-is_full-clause-answer c =
     let i = c.args.item in
     let in' : i < size_of vs = omega (arith, length_items vs) in
     let none : found es t i ≡ None = ap (option_map value_of) (find-None (is_pair t i) es (sym c.in_default.ensures)) in
-    let why : refused true 512 64 (items vs) (found es) t i ≡ Some (of_store NoRoom) = elim c.then-is_full.branch [
-      | then-is_full-via-then-is_full w ↦ put_full es vs t i s.writes.fits s.bounded s.apart in' none (eqb-true (length es) 512 (sym c.is_full.ensures.value ∙ w.if-is_full.true))
-      | then-is_full-via-else-is_full+then-count-ge-SHARE w ↦ put_over es vs t i s.writes.fits s.bounded s.apart in' none (omega (arith, w.if-count-ge-SHARE.true, w.count.ensures))
+    let why : refused true 512 64 (items vs) (found es) t i ≡ Some (of_store NoRoom) = elim c.then-len-eq-ROOM.branch [
+      | then-len-eq-ROOM-via-then-len-eq-ROOM w ↦ put_full es vs t i s.writes.fits s.bounded s.apart in' none (omega (arith, c.len.ensures, w.if-len-eq-ROOM.true))
+      | then-len-eq-ROOM-via-else-len-eq-ROOM+then-count-ge-SHARE w ↦ put_over es vs t i s.writes.fits s.bounded s.apart in' none (omega (arith, w.if-count-ge-SHARE.true, w.count.ensures))
     ] in
-    ap Err c.refusal-then-is_full.ensures ∙ sym (ap answered why)
+    ap Err c.refusal-then-len-eq-ROOM.ensures ∙ sym (ap answered why)
 
 pub invariant_of-self-2 : goal.invariant_of-self-2
 invariant_of-self-2 c =
@@ -81,7 +80,7 @@ returns c =
     let i = c.args.item in
     let in' : i < size_of vs = omega (arith, length_items vs) in
     let none = find-None (is_pair t i) es (sym c.in_default.ensures) in
-    let room : length es < 512 = omega (arith, s.writes.fits, eqb-false (length es) 512 (sym c.is_full.ensures.value ∙ c.if-is_full.false)) in
+    let room : length es < 512 = omega (arith, s.writes.fits, c.len.ensures, c.if-len-eq-ROOM.false) in
     let share : count_of t es < 64 = omega (arith, c.if-count-ge-SHARE.false, c.count.ensures) in
     record {
       answer = sym (ap answered (put-new es vs t i s.writes.fits s.bounded s.apart in' (ap (option_map value_of) none) room share));
