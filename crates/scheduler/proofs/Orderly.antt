@@ -12,11 +12,15 @@ clear-push l (n ∷ ms) m h e =
     let p = and_parts (not (clashes l n)) (clear_of l ms) h in
     and_from (not (clashes l n)) (clear_of l (ms ++ m ∷ [])) p.0 (clear-push l ms m p.1 e)
 
-pub orderly-push : (ls : List Lock) (m : Lock) → orderly ls ≡ true → Fresh ls m → orderly (ls ++ m ∷ []) ≡ true
+orderly-push : (ls : List Lock) (m : Lock) → orderly ls ≡ true → Fresh ls m → orderly (ls ++ m ∷ []) ≡ true
 orderly-push [] m h f = refl
 orderly-push (l ∷ ls) m h f =
     let p = and_parts (clear_of l ls) (orderly ls) h in
     and_from (clear_of l (ls ++ m ∷ [])) (orderly (ls ++ m ∷ [])) (clear-push l ls m p.0 (f l first)) (orderly-push ls m p.1 (λ x i. f x (later i)))
+
+-- the same of a list that equals the grown one, whatever steps made it
+pub orderly-grown : (ls : List Lock) (m : Lock) → orderly ls ≡ true → Fresh ls m → (grown : List Lock) → grown ≡ ls ++ m ∷ [] → orderly grown ≡ true
+orderly-grown ls m h f grown e = rw e (orderly-push ls m h f)
 
 clear_kept : (q : Lock → Bool) (l : Lock) (ms : List Lock) → clear_of l ms ≡ true → clear_of l (filter q ms) ≡ true
 clear_kept q l [] h = refl

@@ -1,19 +1,10 @@
 -- The open transactions' numbers rise: where a number stands, and what keeps them rising.
-use Rattle.std.proofs.Common.{◌≡◌, ℕ, zero, suc, ◌+◌, ◌<◌, ◌≤◌, Bool, true, false, cond, ◌&&◌, eqb, ltb, leb, List, [], ◌∷◌, ◌++◌, length, get_or, set, None, Ok, Err, Result, filter, sym, refl, ap, ◌∙◌, inl, inr, arith}
-use Rattle.std.proofs.lemmas.Bool.Decides.{nat_tests}
-use Rattle.std.proofs.lemmas.Cmp.{nat_cmp_total, ranked}
-use Rattle.std.proofs.lemmas.List.{get_or_default}
-use Rattle.std.proofs.lemmas.List.Sorted.{searchable_from_sorted}
-use Rattle.std.proofs.lemmas.Map.Lookups.{exact_unsigned}
-use Rattle.std.specs.List.Sorted.{IsBinarySearchResult, IsSearchInRange, IsSortedBy}
-use Rattle.std.specs.Ordering.{is_lt, nat_cmp}
-use Rattle.std.specs.declared.cmp.Ordering.TheVariants.{Less, Greater}
-use Rattle.std.specs.Result.{result_ok}
-use Rattle.std.proofs.lemmas.Bool.{and_from, and_parts, cases_lt, cond-false, cond-true, eq-eqb, le-leb, leb-true, lt-ltb, ltb-true, ne_eqb}
+use Rattle.std.proofs.Common.{◌≡◌, ℕ, zero, suc, ◌+◌, ◌<◌, ◌≤◌, Bool, true, false, cond, ◌&&◌, eqb, ltb, leb, List, [], ◌∷◌, ◌++◌, length, get_or, set, None, filter, sym, refl, ap, ◌∙◌, subst, inl, inr, arith}
+use Rattle.std.proofs.lemmas.Bool.{and_from, and_parts, cases_order, cond-false, cond-true, eq-eqb, le-leb, leb-true, lt-ltb, ltb-true, ne_eqb}
 use Rattle.scheduler.specs.declared.transaction.State.{State}
 use Rattle.scheduler.specs.declared.transaction.Transaction.{Transaction}
 use Rattle.scheduler.specs.Orders.{no_transaction, rising}
-use Rattle.scheduler.specs.Found.{At, Found}
+use Rattle.scheduler.specs.Found.{At}
 use Rattle.scheduler.specs.Ledger.{state_of, transaction}
 
 module _ (low last : ℕ) (o : Transaction) (os : List Transaction) (h : rising low last (o ∷ os) ≡ true) where
@@ -98,19 +89,22 @@ rising_kept q low last (o ∷ os) h = go (q o) (rising_kept q o.number last os (
 pub at-rising : (low last : ℕ) (os : List Transaction) → rising low last os ≡ true → (t m : ℕ) → m < length os → (get_or os m no_transaction).number ≡ t → At os t m
 at-rising low last os h t m in' e = at_place os t m in' e (λ k l d. let up = rising_order low last os k m h l in' in omega arith)
 
--- what a bisection for t answers
-module _ (low last : ℕ) (os : List Transaction) (h : rising low last os ≡ true) (t : ℕ) where
-  sorted : IsSortedBy (λ a b. is_lt (nat_cmp a.number b.number)) os
-  sorted k d z l =
-      let up = rising_order low last os k (k + 1) h (omega arith) l in
-      rw (get_or_default os k d no_transaction (omega arith), get_or_default os (k + 1) d no_transaction l) (grind (arith, nat_tests, up))
+-- what a look at the place m tells of those before it and behind it
+module _ (low last : ℕ) (os : List Transaction) (h : rising low last os ≡ true) (t m : ℕ) (in' : m < length os) where
+  pub before_less : (get_or os m no_transaction).number < t → (k : ℕ) → k < m + 1 → (get_or os k no_transaction).number < t
+  before_less l k b = elim (cases_order k m) [
+    | inl e ↦ subst (λ (n : ℕ). (get_or os n no_transaction).number < t) (sym e) l
+    | inr s ↦ elim s [
+      | inl x ↦ let r = rising_order low last os k m h x in' in omega arith
+      | inr x ↦ absurd (omega arith)
+    ]
+  ]
 
-  pub at_found : (r : Result ℕ ℕ) → IsSearchInRange r (length os) → IsBinarySearchResult (λ o. nat_cmp o.number t) os r → Found os t (result_ok r)
-  at_found (Ok i) in' equal =
-      at-rising low last os h t i in' (exact_unsigned _ t (equal no_transaction))
-  at_found (Err i) in' parts =
-      let split = parts (searchable_from_sorted nat_cmp_total (λ (o : Transaction). o.number) os t sorted) in
-      nowhere os t (λ k l e. elim (cases_lt k i) [
-        | inl x ↦ let y = ranked _ t Less (sym (split.0 k no_transaction (omega arith) x)) in omega arith
-        | inr x ↦ let y = ranked _ t Greater (sym (split.1 k no_transaction x l)) in omega arith
-      ])
+  pub behind_more : t < (get_or os m no_transaction).number → (k : ℕ) → m ≤ k → k < length os → t < (get_or os k no_transaction).number
+  behind_more l k b c = elim (cases_order k m) [
+    | inl e ↦ subst (λ (n : ℕ). t < (get_or os n no_transaction).number) (sym e) l
+    | inr s ↦ elim s [
+      | inl x ↦ absurd (omega arith)
+      | inr x ↦ let r = rising_order low last os m k h x c in omega arith
+    ]
+  ]

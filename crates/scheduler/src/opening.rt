@@ -35,7 +35,23 @@ impl Tables {
     pub(crate) fn find(&self, t: u16) -> Option<usize>
         ensures { Found self.now.«open».items t result }
     {
-        self.open.binary_search_by_key(&t, |one| one.number).ok()
+        // By hand, since the library's search has no early exit, and this is called for each lock.
+        let list = self.open.as_slice();
+        let mut low = 0;
+        let mut high = list.len();
+        while low < high {
+            let mid = (low + high) / 2;
+            let number = list[mid].number;
+            if number == t {
+                return Some(mid);
+            }
+            if number < t {
+                low = mid + 1;
+            } else {
+                high = mid;
+            }
+        }
+        None
     }
 
     pub(crate) fn state(&self, i: usize) -> State
