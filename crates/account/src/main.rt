@@ -13,7 +13,6 @@ use scheduler::rule::{DeferredUpdates, WritersPassReaders};
 use std::io::Read;
 use std::{env, io};
 use store::in_place::InPlace;
-use store::on_slice::OnSlice;
 use store::private::Private;
 
 /// What the program is asked to tell. A word picks it, so a match says it more plainly than a closure for each; the first two say only

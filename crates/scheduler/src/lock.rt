@@ -1,5 +1,7 @@
 // A lock, and the two kinds of it.
 
+use store::belonging::Belongs;
+
 #[derive(Clone, Copy, PartialEq, Eq, Debug, Default)]
 pub enum Kind {
     #[default]
@@ -13,4 +15,12 @@ pub struct Lock {
     pub owner: u16,
     pub item: u16,
     pub kind: Kind,
+}
+
+impl Belongs for Lock {
+    ghost owner = { λ l. l.owner };
+
+    fn owner(self) -> u16 {
+        self.owner
+    }
 }

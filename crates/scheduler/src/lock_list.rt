@@ -6,6 +6,7 @@ ghost use Rattle.scheduler.specs.Orders.{orderly};
 
 use crate::lock::Lock;
 use arrayvec::ArrayVec;
+use store::belonging::let_go;
 
 /// How many locks there may be.
 pub const LOCKS: usize = 2048;
@@ -52,6 +53,6 @@ impl LockList {
     pub(crate) fn remove_owner(&mut self, t: u16)
         ensures { self.new.inner.items ≡ unlocked t self.old.inner.items }
     {
-        self.inner.retain(|lock| lock.owner != t);
+        let_go(&mut self.inner, t);
     }
 }

@@ -18,6 +18,7 @@ use crate::tables::Tables;
 use crate::transaction::{Ask, State, Transaction};
 use arrayvec::ArrayVec;
 use records::refusal::{Layer, Reason, Refusal};
+use store::belonging::let_go;
 
 // That a place is one of an open transaction is asked of each call: it is a fact of the tables and of the place.
 impl Tables {
@@ -96,7 +97,7 @@ impl Tables {
     pub(crate) fn close(&mut self, t: u16)
         ensures { ledger_of self.new ≡ struck t (ledger_of self.old) }
     {
-        self.open.retain(|one| one.number != t);
+        let_go(&mut self.open, t);
         self.locks.remove_owner(t);
     }
 

@@ -4,6 +4,7 @@ ghost use Rattle.scheduler.specs.Edges.{committing};
 ghost use Rattle.scheduler.specs.Steps.{no_item};
 
 use records::answer::{Activity, Answer};
+use store::belonging::Belongs;
 
 /// What a transaction asks for, and holds while it waits.
 #[derive(Clone, Copy, PartialEq, Eq, Debug)]
@@ -62,6 +63,14 @@ pub const NOBODY: u16 = 0;
 pub struct Transaction {
     pub number: u16,
     pub state: State,
+}
+
+impl Belongs for Transaction {
+    ghost owner = { λ o. o.number };
+
+    fn owner(self) -> u16 {
+        self.number
+    }
 }
 
 /// The record of a transaction that is open at the end.

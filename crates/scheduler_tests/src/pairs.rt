@@ -6,7 +6,6 @@ use scheduler::rule::{DeferredUpdates, LockRule, Rigorous, WritersPassReaders};
 use scheduler::scheduler::Scheduler;
 use std::process::Abort;
 use store::in_place::InPlace;
-use store::on_slice::OnSlice;
 use store::private::Private;
 use store::store::Store;
 

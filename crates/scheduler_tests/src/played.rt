@@ -8,7 +8,6 @@ use std::alloc::Global;
 use std::process::Abort;
 use std::test::Fail;
 use store::in_place::InPlace;
-use store::on_slice::OnSlice;
 use store::private::Private;
 use store::store::Store;
 

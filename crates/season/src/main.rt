@@ -15,7 +15,6 @@ use scheduler::scheduler::Scheduler;
 use scheduler::transaction::NOBODY;
 use std::io;
 use store::in_place::InPlace;
-use store::on_slice::OnSlice;
 use store::store::Store;
 
 /// The item that holds the team's total.

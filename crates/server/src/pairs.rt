@@ -8,7 +8,6 @@ use cases::starting_values;
 use scheduler::rule::{DeferredUpdates, WritersPassReaders};
 use std::alloc::{AllocError, Global};
 use store::in_place::InPlace;
-use store::on_slice::OnSlice;
 use store::private::Private;
 
 // Each says which store and which rule; a trait cannot name a store for every lifetime of its slice, so they are not one function.

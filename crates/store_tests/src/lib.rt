@@ -6,7 +6,6 @@ mod tests {
     use records::refusal::{Layer, Reason, Refusal};
     use std::process::Abort;
     use store::in_place::InPlace;
-    use store::on_slice::OnSlice;
     use store::private::Private;
     use store::store::Store;
 

@@ -11,7 +11,6 @@ use crate::refused::{NO_SUCH_ITEM, NOT_OPEN, NOT_WAITING, PAIR, WAITING};
 use scheduler::rule::{DeferredUpdates, LockRule, WritersPassReaders};
 use scheduler::scheduler::Scheduler;
 use store::in_place::InPlace;
-use store::on_slice::OnSlice;
 use store::store::Store;
 
 /// A hand, at the scheduler that it begins at or away, at the other.

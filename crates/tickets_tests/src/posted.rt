@@ -7,7 +7,6 @@ use scheduler::scheduler::Scheduler;
 use scheduler::transaction::NOBODY;
 use std::process::Abort;
 use store::in_place::InPlace;
-use store::on_slice::OnSlice;
 use store::store::Store;
 
 fn in_place(values: &mut [i32]) -> Scheduler<InPlace<'_>, WritersPassReaders> {
