@@ -12,7 +12,7 @@ clear-push l (n ∷ ms) m h e =
     let p = and_parts (not (clashes l n)) (clear_of l ms) h in
     and_from (not (clashes l n)) (clear_of l (ms ++ m ∷ [])) p.0 (clear-push l ms m p.1 e)
 
-orderly-push : (ls : List Lock) (m : Lock) → orderly ls ≡ true → Fresh ls m → orderly (ls ++ m ∷ []) ≡ true
+pub orderly-push : (ls : List Lock) (m : Lock) → orderly ls ≡ true → Fresh ls m → orderly (ls ++ m ∷ []) ≡ true
 orderly-push [] m h f = refl
 orderly-push (l ∷ ls) m h f =
     let p = and_parts (clear_of l ls) (orderly ls) h in
